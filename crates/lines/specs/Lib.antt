@@ -1,0 +1,3 @@
+pub mod Forms
+pub mod Stands
+pub mod Tables
