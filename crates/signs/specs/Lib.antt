@@ -1,0 +1,4 @@
+pub mod Marks
+pub mod Signs
+pub mod Stands
+pub mod Walk

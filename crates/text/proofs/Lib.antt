@@ -1,0 +1,4 @@
+pub mod Heads
+pub mod Naming
+pub mod Telling
+pub mod Whole
