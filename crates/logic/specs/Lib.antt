@@ -1,0 +1,9 @@
+pub mod History
+pub mod Truth
+pub mod Rows
+pub mod Readings
+pub mod Steps
+pub mod Reach
+pub mod Clear
+pub mod TableMeans
+pub mod Worked
