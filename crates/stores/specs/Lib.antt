@@ -1,0 +1,5 @@
+pub mod Bounds
+pub mod Bytes
+pub mod Making
+pub mod Meaning
+pub mod Refusals
