@@ -1,0 +1,2 @@
+pub mod Clearness
+pub mod Worked

@@ -1,0 +1,10 @@
+pub mod Records
+pub mod Listed
+pub mod Lows
+pub mod Reports
+pub mod Walks
+pub mod Owns
+pub mod Starts
+pub mod Closes
+pub mod Refusals
+pub mod Verdicts
