@@ -1,0 +1,4 @@
+pub mod Faults
+pub mod Input
+pub mod Lines
+pub mod Spelling
