@@ -1,6 +1,8 @@
 //! What the program says, as text: an answer is written as one line, byte by byte.
 //!
 //! Rests on `refusals`. specs/Written.antt has the bytes.
+#![tactic(auto)]
+
 ghost use Rattle.std.specs.Prelude.{Some};
 ghost use Rattle.answers.specs.Written.{written};
 

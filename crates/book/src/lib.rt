@@ -7,6 +7,8 @@
 //! `meaning`.
 //!
 //! Rests on `monitor`, which has the calls over parts.
+#![tactic(auto)]
+
 mod book;
 mod calling;
 mod opening;

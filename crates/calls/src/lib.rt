@@ -3,6 +3,8 @@
 //!
 //! Rests on `refusals`. specs/Input.antt says how an input is cut, specs/Lines.antt what its lines are,
 //! specs/Spelling.antt which bytes spell a call, specs/Faults.antt what is refused.
+#![tactic(auto)]
+
 mod call;
 mod fault;
 mod input;

@@ -9,6 +9,8 @@
 //!
 //! Texts, inputs, records and codes are written in hexadecimal. The lines and what is expected of them are written by
 //! tools/cases.py from the vectors of an independent model and from cases worked out by hand.
+#![tactic(auto)]
+
 use anyhow::anyhow;
 use std::alloc::Global;
 use std::io::{BufRead, BufReader, BufWriter, Read, Write};

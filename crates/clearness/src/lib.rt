@@ -3,6 +3,8 @@
 //!
 //! Rests on `meaning`, whose definitions of calls and answers it speaks of, and on the law of clearer truths of
 //! `logic`. Read specs/Clearness.antt; specs/Worked.antt has two lists with their answers.
+#![tactic(auto)]
+
 ghost use Rattle.clearness.specs.Clearness.{ClearerAnswered, ClearerOnward};
 ghost use Rattle.clearness.specs.Worked.{WorkedClearer};
 

@@ -3,6 +3,8 @@
 //! `Room::new` makes all room, and is all that can want memory. `respond` then gives the one list of answers that
 //! specs/Output.antt has for the input. Rests on `calls` and `answers` for what is read and said, on `text` for the
 //! policy, and on `book` for the calls, here on the plain scale and a row table of 64 runs.
+#![tactic(auto)]
+
 ghost use Rattle.std.specs.Prelude.{◌≡◌, ◌≤◌, [], ◌∷◌, length};
 ghost use Rattle.answers.specs.declared.answer.Answer.TheVariants.{Refused as refused};
 ghost use Rattle.console.specs.Output.{Printed, OneOutput};

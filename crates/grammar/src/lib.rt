@@ -4,6 +4,8 @@
 //! specs/Machine.antt the reading sign by sign as a definition that computes. The law that ties them is
 //! specs/Reading.antt: a text is accepted exactly when its signs derive a policy within the limits, and refused at the
 //! first thing that is wrong; a sign fits where the signs up to it begin some policy. Rests on `signs` and `lines`.
+#![tactic(auto)]
+
 ghost use Rattle.grammar.specs.Reading.{ReadsRight, ReadsOnlyRight, OneReading};
 
 mod fault;

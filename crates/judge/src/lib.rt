@@ -3,6 +3,8 @@
 //!
 //! Rests on scales, lines and logic. specs/Judging.antt says what the slice holds then, logic's specs/Rows.antt
 //! what a line's truth comes from.
+#![tactic(auto)]
+
 ghost use Rattle.std.specs.Prelude.{◌≡◌, ℕ, slice_index_or};
 ghost use Rattle.scales.specs.Algebra.{and};
 ghost use Rattle.logic.specs.History.{History};

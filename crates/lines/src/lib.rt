@@ -4,6 +4,8 @@
 //! (specs/Forms.antt); which lines a form becomes is specs/Tables.antt, and which form a line stands for
 //! specs/Stands.antt. `Table` takes the lines of a form piece by piece; `Policy` is a whole table, well-formed in
 //! its type. Rests on `refusals`.
+#![tactic(auto)]
+
 ghost use Rattle.std.specs.Prelude.{◌≡◌, ℕ, ◌+◌, ◌<◌, ◌≤◌, true, List, [], ◌∷◌, length};
 ghost use Rattle.lines.specs.Policies.{lines_of, Makes, refusal_of};
 ghost use Rattle.lines.specs.Stands.{well_formed};

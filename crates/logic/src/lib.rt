@@ -3,6 +3,8 @@
 //!
 //! Rests on scales and lines. Read specs/History.antt, then specs/Truth.antt and specs/Rows.antt: these are the
 //! definitions. specs/Readings.antt says each operation in sentences, specs/Worked.antt has worked cases.
+#![tactic(auto)]
+
 ghost use Rattle.logic.specs.Clear.{ClearStays, TruthsAreCodes};
 ghost use Rattle.logic.specs.Reach.{BelowStays, NoGap, CountStops, RunsFollow};
 ghost use Rattle.logic.specs.Readings.{LocalReadings, GlobalReadings};

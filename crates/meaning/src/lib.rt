@@ -3,6 +3,8 @@
 //!
 //! Rests on `logic` and `stores`. Read specs/Kept.antt and specs/Records.antt for what a store holds,
 //! specs/Calls.antt and specs/Refusals.antt for what a call is answered, specs/Reaching.antt for the reach.
+#![tactic(auto)]
+
 ghost use Rattle.meaning.specs.Reaching.{ReportsReach};
 ghost use Rattle.meaning.specs.Worked.{WorkedCalls};
 

@@ -6,6 +6,8 @@
 //! does not move; each record is read once, and written once if it moved. Nothing is allocated.
 //!
 //! Rests on `meaning` and `records`, and on what `stores` and `scales` promise of any store and scale.
+#![tactic(auto)]
+
 mod access;
 mod asking;
 mod checks;

@@ -2,6 +2,8 @@
 //!
 //! Rests on `signs` and `grammar`. specs/Names.antt says which names there are by a text; what a name may break
 //! is the grammar's `name_limit`.
+#![tactic(auto)]
+
 ghost use Rattle.std.specs.Prelude.{◌≡◌, ℕ, ◌<◌, ◌≤◌, [], length};
 ghost use Rattle.grammar.specs.Machine.{name_limit};
 ghost use Rattle.names.specs.Names.{span_bytes, names_of, lookup, declared_answer, declared_names};

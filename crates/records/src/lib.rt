@@ -10,6 +10,8 @@
 //!
 //! A record is its first byte and the rest. Rests on `judge` and on the definitions of `meaning`, whose
 //! specs/Records.antt names the parts.
+#![tactic(auto)]
+
 ghost use Rattle.std.specs.Prelude.{◌≡◌, ◌+◌, ◌*◌, ◌<◌, ◌∷◌, ◌++◌, length, replicate, Decides, slice_index, slice_set};
 ghost use Rattle.logic.specs.Rows.{step};
 ghost use Rattle.meaning.specs.Records.{state_of, truths_of, past_of, with_truths, renewed};

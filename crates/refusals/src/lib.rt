@@ -2,6 +2,8 @@
 //! type, and its printed form is fixed byte by byte.
 //!
 //! Rests on nothing. specs/Written.antt has the bytes.
+#![tactic(auto)]
+
 ghost use Rattle.std.specs.Prelude.{Some};
 ghost use Rattle.refusals.specs.Written.{written};
 

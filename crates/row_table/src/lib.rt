@@ -11,6 +11,8 @@
 //! (specs/Image.antt), at its making and after every call: that is part of its type.
 //!
 //! Rests on `stores`, whose interface it meets.
+#![tactic(auto)]
+
 mod making;
 mod slots;
 mod store;

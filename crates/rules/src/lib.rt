@@ -4,6 +4,8 @@
 //! Each function promises that the machine of `grammar` goes from where its part is due to where it is read, or which
 //! refusal it comes to, and that the lines of the part's form were written (specs/Parts.antt). Rests on `signs`,
 //! `lines`, `grammar` and `names`.
+#![tactic(auto)]
+
 ghost use Rattle.std.specs.Prelude.{◌≡◌};
 ghost use Rattle.signs.specs.Signs.{kind_of};
 ghost use Rattle.grammar.specs.Machine.{is_mark, prefix_of, since_of};

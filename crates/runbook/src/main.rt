@@ -1,4 +1,6 @@
 //! The program: reads standard input, and prints what its policy text was read into, or the refusal.
+#![tactic(auto)]
+
 use calls::cut_input;
 use std::io;
 use std::io::{BufWriter, Read, Write};

@@ -2,6 +2,8 @@
 //! With a scale of its own whose or minds the order of its sides, to show that the laws admit one.
 //!
 //! Rests on scales. The cases stand in the module tests, the scale in sided.
+#![tactic(auto)]
+
 mod sided;
 #[cfg(test)]
 mod tests;

@@ -3,6 +3,8 @@
 //!
 //! Rests on nothing. specs/Algebra.antt says what a scale is and which laws it keeps, specs/Scales.antt
 //! defines the two scales here. A scale of one's own gets its laws by `laws_by_test` of proofs/Tables.antt.
+#![tactic(auto)]
+
 mod open;
 mod plain;
 mod scale;

@@ -3,6 +3,8 @@
 //! `Reader` walks over the text that it was handed and copies nothing; a name stays a part of the text.
 //! Its contract equates each sign, its places or the fault with `next_sign` (specs/Signs.antt), and states
 //! the law of signs (specs/Stands.antt). Rests on `refusals`.
+#![tactic(auto)]
+
 ghost use Rattle.std.specs.Prelude.{◌≡◌, ℕ, ◌+◌, ◌<◌, ◌≤◌, length, drop, IfSome, slice_index};
 ghost use Rattle.std.specs.List.{prefix_len};
 ghost use Rattle.std.specs.Str.{bytes_eq};

@@ -4,6 +4,8 @@
 //! answer every list of calls alike, whatever they are made of (`agree`). specs/Calls.antt says what is answered.
 //!
 //! Rests on `stores`.
+#![tactic(auto)]
+
 mod call;
 mod performing;
 

@@ -5,6 +5,8 @@
 //! specs/Refusals.antt say which. Code above is proved once, over any store.
 //!
 //! Rests on `refusals`. The tables that meet this interface are crates of their own.
+#![tactic(auto)]
+
 mod bounds;
 mod checks;
 mod fault;

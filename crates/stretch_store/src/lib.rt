@@ -18,6 +18,8 @@
 //! after every call: that is part of its type.
 //!
 //! Rests on `stores`, whose interface it meets, and on `stretch_table`, whose steps it takes.
+#![tactic(auto)]
+
 mod making;
 mod store;
 mod table;

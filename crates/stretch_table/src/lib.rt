@@ -4,6 +4,8 @@
 //! takes (clear, copy out, replace, add, drop) every byte that it leaves: the image of the records as they should be then
 //! (specs/Image.antt, specs/Entries.antt). A step asks that its memory is kept so; the type of a stretch table says
 //! that it always is. Rests on `refusals` and `stores`.
+#![tactic(auto)]
+
 ghost use Rattle.std.specs.Prelude.{◌≡◌};
 ghost use Rattle.stretch_table.specs.Stretches.{Stand, Alone};
 

@@ -4,6 +4,8 @@
 //! `read` equates its answer with what the text means, and states the law of texts (specs/Texts.antt): accepted exactly
 //! when the grammar and the limits read it, refused at the first thing that is wrong. `policy_refusal` is the call for a
 //! program in C. Rests on `signs`, `lines`, `grammar`, `names` and `rules`.
+#![tactic(auto)]
+
 ghost use Rattle.std.specs.Prelude.{◌≡◌};
 ghost use Rattle.text.specs.Heads.{MarkRead, EndRead, NamesRead, Fresh, Parsed};
 ghost use Rattle.text.specs.Texts.{meant, told, Right, grammar_refusal, refusal_of, number_of};

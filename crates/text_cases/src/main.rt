@@ -4,6 +4,8 @@
 //! A policy is printed with its atoms, each with the number under which it is found, and with its lines in their
 //! order: `a0` an atom by its number, `no`, `yes`, `~0`, `YL0`, `YG0` an operation on one line, `0|1`, `0SL1`,
 //! `0SG1` on two. The inputs and what is expected of them are written by tools/text_cases.py.
+#![tactic(auto)]
+
 use anyhow::anyhow;
 use lines::Line;
 use names::Names;

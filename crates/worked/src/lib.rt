@@ -2,6 +2,8 @@
 //! calls gets, computed.
 //!
 //! Rests on `text` for what a text means, and on `meaning` for what calls are answered.
+#![tactic(auto)]
+
 ghost use Rattle.worked.specs.Cases.{WorkedCases};
 
 /// Every worked case comes out as it is written in specs/Cases.antt.
