@@ -28,7 +28,7 @@ module _ (S : Algebra) (L : Laws S) where
 
   pub clear_truth : (f : Form) (g h : History) → Clearer S g h → (s : ℕ) → S.clear (truth S f g s) (truth S f h s) ≡ true
   clear_truth =
-      truth_related (ClearCodes S) (λ b a. S.clear b a ≡ true) S (L.clear_same S.no L.no_code) (L.clear_same S.yes L.yes_code) L.clear_not L.Clear-or
+      truth_related (ClearCodes S) (λ b a. S.clear b a ≡ true) S (L.clear_same S.no L.no_code) (L.clear_same S.yes L.yes_code) L.clear_not L.clear_or
       clear_none clear_at
 
   pub clear_verdict : (ls : List Line) (g h : History) → Clearer S g h → S.clear (verdict S ls g) (verdict S ls h) ≡ true

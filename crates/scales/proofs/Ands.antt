@@ -48,7 +48,7 @@ module _ (S : Algebra) (L : Laws S) where
 
   -- clearer sides, a clearer and
   pub clear_and : (b a d c : ℕ) → S.clear b a ≡ true → S.clear d c ≡ true → S.clear (and S b d) (and S a c) ≡ true
-  clear_and b a d c h i = L.clear_not _ _ (L.Clear-or _ _ _ _ (L.clear_not b a h) (L.clear_not d c i))
+  clear_and b a d c h i = L.clear_not _ _ (L.clear_or _ _ _ _ (L.clear_not b a h) (L.clear_not d c i))
 
   -- a yes or a no stays in all that is as clear
   pub clear_stays_yes : (b a : ℕ) → S.clear b a ≡ true → a ≡ S.yes → b ≡ S.yes

@@ -2,7 +2,7 @@ use Rattle.std.proofs.Common.{◌≡◌, ◌+◌, [], ◌∷◌, length, take, s
 use Rattle.lines.specs.Written.{Adds}
 use Rattle.lines.proofs.Writing.{added_kept, added_late}
 use Rattle.lines.proofs.table.Table.add.Goals as goal
-use Rattle.lines.proofs.table.Table.add.Goals.{then-at-lt-MOST-LINES, else-at-lt-MOST-LINES}
+use Rattle.lines.proofs.table.Table.add.Goals.{then-at-lt-MOST_LINES, else-at-lt-MOST_LINES}
 
 pub returns : goal.returns
 returns c =
@@ -11,8 +11,8 @@ returns c =
     record {
       value = refl;
       count = refl;
-      lines = elim c.if-at-lt-MOST-LINES.branch [
-        | then-at-lt-MOST-LINES w ↦ subst (λ s. Adds (take t.count t.kept) (c.args.line ∷ []) (take (t.count + 1) s.1.0)) (sym w.self-is) (added_kept t.kept t.count c.args.line all w.if-at-lt-MOST-LINES.true)
-        | else-at-lt-MOST-LINES w ↦ subst (λ s. Adds (take t.count t.kept) (c.args.line ∷ []) (take (t.count + 1) s.1.0)) (sym w.self-is) (added_late t.kept t.count c.args.line all w.if-at-lt-MOST-LINES.false)
+      lines = elim c.if-at-lt-MOST_LINES.branch [
+        | then-at-lt-MOST_LINES w ↦ subst (λ s. Adds (take t.count t.kept) (c.args.line ∷ []) (take (t.count + 1) s.1.0)) (sym w.self-is) (added_kept t.kept t.count c.args.line all w.if-at-lt-MOST_LINES.true)
+        | else-at-lt-MOST_LINES w ↦ subst (λ s. Adds (take t.count t.kept) (c.args.line ∷ []) (take (t.count + 1) s.1.0)) (sym w.self-is) (added_late t.kept t.count c.args.line all w.if-at-lt-MOST_LINES.false)
       ];
     }
