@@ -1,13 +1,12 @@
-use Rattle.std.proofs.Common.{◌≡◌, ℕ, ◌+◌, ◌*◌, ◌<◌, ◌≤◌, true, false, cond, ltb, length, get_or, Some, None, Ok, Err, Option, sym, refl, ap, ◌∙◌, subst, arith}
+use Rattle.std.proofs.Common.{◌≡◌, ◌+◌, ◌*◌, ◌<◌, ◌≤◌, cond, length, get_or, Some, None, Ok, Err, sym, ap, ◌∙◌, subst, arith}
 use Rattle.std.proofs.lemmas.Result.{err_from_is_err_and}
 use Rattle.std.proofs.lemmas.Bool.{lt-ltb, le-ltb}
 use Rattle.stores.specs.Meaning.{high_of}
 use Rattle.logic.specs.History.{high}
-use Rattle.meaning.specs.declared.fault.BookFault.{BookFault}
 use Rattle.meaning.specs.declared.fault.BookFault.TheVariants.{NoLine}
 use Rattle.meaning.specs.Records.{record_of, truths_of}
 use Rattle.meaning.specs.Kept.{low}
-use Rattle.meaning.specs.Refusals.{run_refusal, truth_refusal}
+use Rattle.meaning.specs.Refusals.{run_refusal}
 use Rattle.meaning.specs.Calls.{unless, line_truth}
 use Rattle.meaning.proofs.Owns.{kept_truths, line_is}
 use Rattle.meaning.proofs.Refusals.{none_from_unless, some_from_unless, run_by, run_there, read_record, truth_by_run, truth_below, truth_held}

@@ -1,10 +1,9 @@
-use Rattle.std.proofs.Common.{◌≡◌, ℕ, ◌+◌, ◌-◌, ◌*◌, ◌≤◌, true, false, cond, eqb, length, get_or, Some, None, Ok, Option, sym, refl, ap, ◌∙◌, subst, arith}
+use Rattle.std.proofs.Common.{◌≡◌, ◌+◌, ◌-◌, ◌*◌, ◌≤◌, cond, length, get_or, Some, None, Ok, sym, ap, ◌∙◌, subst, arith}
 use Rattle.std.proofs.lemmas.Bool.{eq-eqb, ne_eqb}
 use Rattle.logic.specs.History.{high}
 use Rattle.logic.specs.Rows.{verdict}
-use Rattle.meaning.specs.declared.fault.BookFault.{BookFault}
 use Rattle.meaning.specs.declared.fault.BookFault.TheVariants.{NoRuns}
-use Rattle.meaning.specs.Records.{record_of, truths_of, width}
+use Rattle.meaning.specs.Records.{record_of, truths_of}
 use Rattle.meaning.specs.Calls.{unless}
 use Rattle.meaning.specs.Walking.{Reads}
 use Rattle.meaning.proofs.Verdicts.{verdict_is}

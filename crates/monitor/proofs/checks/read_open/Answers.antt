@@ -1,7 +1,6 @@
-use Rattle.std.proofs.Common.{◌≡◌, ◌<◌, ◌≤◌, length, IfOk, Some, None, Err, Option, sym, ap, ◌∙◌, subst, arith}
+use Rattle.std.proofs.Common.{◌≡◌, ◌<◌, ◌≤◌, length, IfOk, Some, None, Err, sym, ap, ◌∙◌, subst}
 use Rattle.std.proofs.lemmas.Result.{err_from_is_err_and}
 use Rattle.stores.specs.Meaning.{high_of}
-use Rattle.meaning.specs.declared.fault.BookFault.{BookFault}
 use Rattle.meaning.specs.Records.{record_of}
 use Rattle.meaning.specs.Refusals.{run_refusal}
 use Rattle.meaning.specs.Calls.{unless}

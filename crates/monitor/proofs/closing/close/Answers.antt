@@ -1,6 +1,6 @@
-use Rattle.std.proofs.Common.{◌≡◌, ◌-◌, ◌≤◌, ◌∷◌, length, set, Some, None, Ok, Err, sym, refl, ap, ◌∙◌, arith}
+use Rattle.std.proofs.Common.{◌-◌, ◌∷◌, length, set, Ok, Err, sym, refl, ap, ◌∙◌, arith}
 use Rattle.std.proofs.lemmas.Result.{err_from_is_err_and}
-use Rattle.logic.specs.History.{close, high}
+use Rattle.logic.specs.History.{close}
 use Rattle.meaning.specs.Kept.{low, meaning}
 use Rattle.meaning.specs.Refusals.{open_refusal}
 use Rattle.meaning.specs.Calls.{unless, added}

@@ -1,10 +1,10 @@
-use Rattle.std.proofs.Common.{◌≡◌, ◌-◌, ◌≤◌, cond, ◌∷◌, length, is_ok, sym, ap, ◌∙◌, arith}
-use Rattle.stores.specs.Meaning.{forgotten, high_of}
+use Rattle.std.proofs.Common.{◌≡◌, ◌-◌, cond, ◌∷◌, is_ok, sym, ap, ◌∙◌, arith}
+use Rattle.stores.specs.Meaning.{forgotten}
 use Rattle.stores.specs.Refusals.{answer}
 use Rattle.stores.proofs.Refused.{run_held}
-use Rattle.logic.specs.History.{close, high}
+use Rattle.logic.specs.History.{close}
 use Rattle.meaning.specs.Records.{record_of}
-use Rattle.meaning.specs.Kept.{low_by, low, lowest_open}
+use Rattle.meaning.specs.Kept.{low_by, low}
 use Rattle.meaning.proofs.Lows.{low_most}
 use Rattle.meaning.proofs.Closes.{low_more, search_is, close_drops}
 use Rattle.meaning.proofs.Walks.{highs, lows, wide}

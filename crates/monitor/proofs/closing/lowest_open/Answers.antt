@@ -1,7 +1,7 @@
-use Rattle.std.proofs.Common.{◌≡◌, ◌+◌, ◌-◌, ◌<◌, ◌≤◌, length, sym, ap, ◌∙◌, arith}
+use Rattle.std.proofs.Common.{◌+◌, ◌-◌, ◌<◌, ◌≤◌, sym, ap, ◌∙◌, arith}
 use Rattle.stores.specs.Meaning.{high_of, record_at}
 use Rattle.meaning.specs.Kept.{lowest}
-use Rattle.meaning.specs.Walking.{Held, is_open}
+use Rattle.meaning.specs.Walking.{is_open}
 use Rattle.meaning.proofs.Closes.{search_stops, search_goes, search_ends}
 use Rattle.monitor.proofs.closing.lowest_open.Goals as goal
 

@@ -1,7 +1,7 @@
-use Rattle.std.proofs.Common.{◌≡◌, ◌-◌, ◌≤◌, length, IfOk, Some, None, Err, sym, ap, ◌∙◌, subst, arith}
+use Rattle.std.proofs.Common.{◌-◌, ◌≤◌, length, IfOk, Some, None, Err, sym, ap, ◌∙◌, subst, arith}
 use Rattle.std.proofs.lemmas.Result.{err_from_is_err_and}
 use Rattle.logic.specs.History.{high}
-use Rattle.meaning.specs.Records.{record_of, renewed}
+use Rattle.meaning.specs.Records.{renewed}
 use Rattle.meaning.specs.Refusals.{codes_refusal, open_refusal}
 use Rattle.meaning.specs.Calls.{unless}
 use Rattle.meaning.specs.Walking.{Looking}

@@ -1,4 +1,4 @@
-use Rattle.std.proofs.Common.{◌≡◌, ◌+◌, ◌-◌, ◌<◌, ◌≤◌, ◌∷◌, ◌++◌, length, replicate, Some, None, Ok, Err, sym, refl, ap, ◌∙◌, arith}
+use Rattle.std.proofs.Common.{◌≡◌, ◌+◌, ◌≤◌, ◌∷◌, ◌++◌, length, replicate, Some, None, Ok, Err, sym, refl, ap, ◌∙◌, arith}
 use Rattle.std.proofs.lemmas.Result.{err_from_is_err_and}
 use Rattle.stores.specs.Meaning.{Meaning, appended}
 use Rattle.stores.specs.Refusals.{append_fault}
@@ -6,7 +6,7 @@ use Rattle.logic.specs.History.{start, high, earlier_run}
 use Rattle.logic.specs.Rows.{nos, row}
 use Rattle.meaning.specs.declared.fault.BookFault.TheVariants.{Store}
 use Rattle.meaning.specs.Records.{record_of}
-use Rattle.meaning.specs.Kept.{low, meaning}
+use Rattle.meaning.specs.Kept.{meaning}
 use Rattle.meaning.specs.Refusals.{codes_refusal}
 use Rattle.meaning.specs.Calls.{unless, added}
 use Rattle.meaning.proofs.Lows.{low_most}

@@ -1,5 +1,4 @@
-use Rattle.std.proofs.Common.{◌≡◌, ◌+◌, ◌<◌, ◌≤◌, length, ◌∙◌, subst, arith}
-use Rattle.stores.specs.Meaning.{high_of}
+use Rattle.std.proofs.Common.{◌<◌, ◌≤◌, length, ◌∙◌, subst, arith}
 use Rattle.meaning.proofs.Walks.{seen_first, look_ended, look_stays, look_moves}
 use Rattle.monitor.proofs.walking.look.Goals as goal
 

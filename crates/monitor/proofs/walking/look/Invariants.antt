@@ -1,4 +1,4 @@
-use Rattle.std.proofs.Common.{◌≡◌, ℕ, ◌-◌, ◌≤◌, List}
+use Rattle.std.proofs.Common.{ℕ, ◌-◌, ◌≤◌, List}
 use Rattle.logic.specs.History.{History}
 use Rattle.meaning.specs.Walking.{Looking, Seen}
 use Rattle.monitor.proofs.walking.look.Given as goal

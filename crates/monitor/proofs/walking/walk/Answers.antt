@@ -1,4 +1,4 @@
-use Rattle.std.proofs.Common.{◌≡◌, ◌+◌, ◌<◌, ◌≤◌, length, refl, ◌∙◌, subst, arith}
+use Rattle.std.proofs.Common.{◌+◌, ◌<◌, ◌≤◌, length, refl, ◌∙◌, subst, arith}
 use Rattle.stores.specs.Meaning.{high_of}
 use Rattle.meaning.specs.Walking.{Writes}
 use Rattle.meaning.proofs.Walks.{sofar_first, ended, stays, moves, same_high}
