@@ -6,10 +6,9 @@ use Rattle.lines.specs.declared.line.Prefix.TheVariants as single
 use Rattle.lines.specs.declared.line.Infix.{Infix}
 use Rattle.lines.specs.declared.line.Infix.TheVariants as pair
 use Rattle.lines.specs.declared.line.Line.{Line}
-use Rattle.lines.specs.declared.line.Line.TheVariants as line
 use Rattle.lines.specs.Forms.{Form, atom, no, yes, prefixed, joined, declared}
 use Rattle.lines.specs.Stands.{fits, well_formed}
-use Rattle.lines.specs.Tables.{leading_lines, closing_lines, middle_lines, ending_lines, leading_count, closing_count, middle_count, ending_count, before_last, lines}
+use Rattle.lines.specs.Tables.{leading_lines, closing_lines, middle_lines, ending_lines, leading_count, middle_count, before_last, lines}
 use Rattle.lines.proofs.Writing.{length_lines}
 
 both : (a b : Bool) → a ≡ true → b ≡ true → (a && b) ≡ true

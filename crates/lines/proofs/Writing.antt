@@ -1,5 +1,5 @@
 -- What it takes to write the lines of a form into a table that keeps the first 128.
-use Rattle.std.proofs.Common.{◌≡◌, ℕ, zero, suc, ◌+◌, ◌<◌, ◌≤◌, ◌⊎◌, List, [], ◌∷◌, ◌++◌, length, take, set, sym, refl, ap, ◌∙◌, subst, inl, inr, arith}
+use Rattle.std.proofs.Common.{◌≡◌, ℕ, zero, suc, ◌+◌, ◌<◌, ◌≤◌, ◌⊎◌, List, [], ◌∷◌, ◌++◌, length, take, set, sym, refl, ap, ◌∙◌, inl, inr, arith}
 use Rattle.std.proofs.lemmas.List.{append-nil, append_assoc, take_all, take_at, take_more_set, length-append, length-take-le}
 use Rattle.lines.specs.declared.line.Prefix.{Prefix}
 use Rattle.lines.specs.declared.line.Prefix.TheVariants as single

@@ -1,5 +1,5 @@
 -- What has been written into a table of which only the first 128 lines are kept. Assumes nothing.
-use Rattle.std.specs.Prelude.{◌≡◌, ℕ, ◌+◌, true, List, ◌++◌, take}
+use Rattle.std.specs.Prelude.{◌≡◌, ℕ, ◌+◌, List, ◌++◌, take}
 use Rattle.lines.specs.declared.line.Line.{Line}
 use Rattle.lines.specs.declared.table.Table.{Table}
 use Rattle.lines.specs.Forms.{Form}

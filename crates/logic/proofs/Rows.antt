@@ -1,7 +1,7 @@
 -- A row comes line by line: each line's judging gives the truth of the form that it stands for. Assumes nothing.
 use Rattle.std.proofs.Common.{◌≡◌, ℕ, zero, suc, ◌+◌, ◌-◌, ◌<◌, true, List, [], ◌∷◌, ◌++◌, map, length, get_or, replicate, sym, refl, ap, ◌∙◌, ap₂, zero-add, add-one, arith, length-append}
-use mathlib.Core.List.{map-append}
-use lib.ListN.{length-map, length-replicate, get_or-map}
+use Rattle.std.proofs.lemmas.List.{map-append}
+use Rattle.std.proofs.Math.ListN.{length-map, length-replicate, get_or-map}
 use Rattle.std.proofs.lemmas.List.{get_or_append_left, get_or_push}
 use Rattle.std.proofs.lemmas.Bool.{and_parts, ltb-true}
 use Rattle.scales.specs.Algebra.{Algebra, Laws, and}

@@ -6,7 +6,7 @@ use Rattle.lines.specs.declared.line.Prefix.TheVariants as single
 use Rattle.lines.specs.declared.line.Infix.{Infix}
 use Rattle.lines.specs.declared.line.Infix.TheVariants as pair
 use Rattle.lines.specs.declared.line.Line.{Line}
-use Rattle.lines.specs.declared.line.Line.TheVariants.{Not, Or, SL, SG}
+use Rattle.lines.specs.declared.line.Line.TheVariants.{Not, SL, SG}
 use Rattle.lines.specs.Forms.{Form, atom, no, yes, prefixed, joined}
 use Rattle.lines.specs.Stands.{form_of, forms_below, forms, rule}
 use Rattle.lines.specs.Tables.{leading_lines, closing_lines, middle_lines, ending_lines, leading_count, closing_count, middle_count, ending_count, before_last, lines, table}

@@ -1,16 +1,15 @@
 -- What a close does to what a store holds. Assumes nothing.
-use Rattle.std.proofs.Common.{◌≡◌, ℕ, zero, suc, ◌+◌, ◌-◌, ◌<◌, ◌≤◌, Bool, true, false, cond, eqb, List, ◌∷◌, map, get_or, drop, set, Some, None, sym, refl, ap, ◌∙◌, inl, inr, arith}
+use Rattle.std.proofs.Common.{◌≡◌, ℕ, suc, ◌+◌, ◌-◌, ◌<◌, ◌≤◌, Bool, true, false, cond, eqb, List, ◌∷◌, map, set, Some, None, sym, refl, ap, ◌∙◌, inl, inr, arith}
 use Rattle.std.specs.List.{range_with_len}
 use Rattle.std.proofs.lemmas.Bool.{cases_eq, cases_Bool, eq-eqb, ne_eqb, false≢true}
 use Rattle.scales.specs.Algebra.{Algebra}
 use Rattle.stores.specs.Meaning.{Meaning, Sound, high_of, record_at, written, forgotten}
 use Rattle.lines.specs.declared.line.Line.{Line}
 use Rattle.logic.specs.History.{History, close, high, opened}
-use Rattle.logic.specs.Rows.{row}
 use Rattle.logic.proofs.Events.{row_close_stays}
 use Rattle.meaning.specs.Records.{flag, record_of, width}
-use Rattle.meaning.specs.Kept.{lowest, lowest_open, low_by, low, keeping, meaning, Represents}
-use Rattle.meaning.specs.Walking.{Held, Writes, is_open}
+use Rattle.meaning.specs.Kept.{lowest, lowest_open, low, keeping, meaning, Represents}
+use Rattle.meaning.specs.Walking.{Writes, is_open}
 use Rattle.meaning.proofs.Listed.{listed_set, listed_drop}
 use Rattle.meaning.proofs.Lows.{low_below, low_first, low_open, low_fewer, lowest_same, lowest_skip}
 use Rattle.meaning.proofs.Reports.{kept_is}

@@ -1,5 +1,5 @@
 -- The lowest run that passes a test, and the lowest run that is kept. Assumes nothing.
-use Rattle.std.proofs.Common.{◌≡◌, ℕ, zero, suc, ◌+◌, ◌-◌, ◌<◌, ◌≤◌, max, Bool, true, false, cond, ◌∷◌, Some, None, Option, unwrap_or, sym, refl, ap, ◌∙◌, inl, inr, add-zero, arith}
+use Rattle.std.proofs.Common.{◌≡◌, ℕ, zero, suc, ◌+◌, ◌-◌, ◌<◌, ◌≤◌, max, Bool, true, false, cond, Some, None, Option, unwrap_or, sym, refl, ap, ◌∙◌, inl, inr, add-zero, arith}
 use Rattle.std.proofs.lemmas.Bool.{cases_lt, false≢true}
 use Rattle.logic.specs.History.{History, high, opened}
 use Rattle.meaning.specs.Kept.{lowest, lowest_open, low_by, low}

@@ -1,20 +1,20 @@
 -- The reported run itself, the run below it, and a truth of a run. Assumes nothing.
-use Rattle.std.proofs.Common.{◌≡◌, ℕ, zero, suc, ◌+◌, ◌-◌, ◌<◌, ◌≤◌, true, List, ◌∷◌, length, get_or, replicate, sym, refl, ap, ◌∙◌, arith}
+use Rattle.std.proofs.Common.{◌≡◌, ℕ, zero, suc, ◌-◌, ◌<◌, ◌≤◌, true, List, ◌∷◌, length, get_or, replicate, sym, refl, ap, ◌∙◌, arith}
 use Rattle.std.proofs.lemmas.List.{get_or_default}
 use Rattle.scales.specs.Algebra.{Algebra}
-use Rattle.stores.specs.Meaning.{Meaning, Sound, record_at, written}
+use Rattle.stores.specs.Meaning.{Meaning, Sound, written}
 use Rattle.lines.specs.declared.line.Line.{Line}
 use Rattle.logic.specs.History.{History, report, high, present, opened, before, earlier_run}
-use Rattle.logic.specs.Rows.{nos, row, step, verdict}
+use Rattle.logic.specs.Rows.{nos, row, step}
 use Rattle.logic.proofs.Rows.{length_row, row_at}
 use Rattle.meaning.specs.Records.{flag, record_of, width, state_of, truths_of, past_of, with_truths, renewed}
 use Rattle.meaning.specs.Kept.{low, meaning, Represents}
 use Rattle.meaning.specs.Calls.{line_truth}
 use Rattle.meaning.specs.Walking.{Lawful, Held, Reads, Writes, Judged, Reported, Begun, Looking}
-use Rattle.meaning.proofs.Lows.{low_open, low_most}
+use Rattle.meaning.proofs.Lows.{low_open}
 use Rattle.meaning.proofs.Reports.{mixed_first, own_record, own_row}
 use Rattle.meaning.proofs.Records.{truths_is}
-use Rattle.meaning.proofs.Walks.{highs, wide, lows, held, read_is, state_long}
+use Rattle.meaning.proofs.Walks.{held, read_is, state_long}
 
 earlier_is : {A : Type 0} (d : A) (f : ℕ → A) (r : ℕ) → 1 < r → earlier_run d f r ≡ f (r - 1)
 earlier_is d f zero l = absurd (omega arith)

@@ -1,8 +1,8 @@
 -- When a call is refused, by what is known of the store and the call's numbers. Assumes nothing.
-use Rattle.std.proofs.Common.{◌≡◌, ℕ, ◌+◌, ◌-◌, ◌<◌, ◌≤◌, Bool, true, false, cond, eqb, ltb, ◌⊎◌, List, [], ◌∷◌, length, get_or, Some, None, Ok, Err, Option, Result, sym, refl, ap, ◌∙◌, inl, inr, arith}
+use Rattle.std.proofs.Common.{◌≡◌, ℕ, ◌+◌, ◌-◌, ◌<◌, ◌≤◌, Bool, true, false, cond, eqb, ltb, List, [], length, Some, None, Ok, Err, Option, Result, sym, refl, ap, ◌∙◌, inl, inr, arith}
 use Rattle.std.proofs.lemmas.List.FromFn.{length-map-range_with_len}
 use Rattle.std.proofs.lemmas.List.{nil_from_length}
-use Rattle.std.proofs.lemmas.Bool.{cases_Bool, cases_eq, ne_eqb, eq-eqb}
+use Rattle.std.proofs.lemmas.Bool.{cases_Bool, cases_eq, ne_eqb}
 use Rattle.std.proofs.lemmas.Bool.Decides.{nat_tests}
 use Rattle.scales.specs.Algebra.{Algebra}
 use Rattle.stores.specs.declared.fault.StoreFault.{StoreFault}
@@ -12,7 +12,7 @@ use Rattle.stores.specs.Refusals as store
 use Rattle.lines.specs.declared.line.Line.{Line}
 use Rattle.logic.specs.History.{History, high, opened}
 use Rattle.meaning.specs.declared.fault.BookFault.{BookFault}
-use Rattle.meaning.specs.declared.fault.BookFault.TheVariants.{Count, NoRun, Closed, Gone, NoLine, Store}
+use Rattle.meaning.specs.declared.fault.BookFault.TheVariants.{Count, Closed, Gone, NoLine, Store}
 use Rattle.meaning.specs.Records.{record_of, width}
 use Rattle.meaning.specs.Kept.{low, meaning, Represents}
 use Rattle.meaning.specs.Refusals.{or_else, opening_refusal, first_bad, codes_refusal, run_refusal, open_refusal, report_refusal, room_refusal, start_refusal, truth_refusal}

@@ -1,5 +1,5 @@
 -- What a report does to records, and to what a store holds. Assumes nothing.
-use Rattle.std.proofs.Common.{◌≡◌, ℕ, zero, suc, ◌+◌, ◌-◌, ◌*◌, ◌<◌, ◌≤◌, true, false, ltb, ◌⊎◌, List, [], ◌∷◌, ◌++◌, map, length, get_or, set, sym, refl, ap, ◌∙◌, subst, inl, inr, add-one, arith}
+use Rattle.std.proofs.Common.{◌≡◌, ℕ, zero, suc, ◌+◌, ◌-◌, ◌<◌, ◌≤◌, List, [], ◌∷◌, ◌++◌, map, length, sym, refl, ap, ◌∙◌, inl, inr, add-one, arith}
 use Rattle.std.specs.List.{range_with_len}
 use Rattle.std.proofs.lemmas.List.FromFn.{length-map-range_with_len, get_or-map-range_with_len}
 use Rattle.std.proofs.ByRecursion.{All-get_or}
@@ -9,7 +9,7 @@ use Rattle.stores.specs.Meaning.{Meaning, Sound, IsRecord, high_of, record_at, w
 use Rattle.lines.specs.declared.line.Line.{Line}
 use Rattle.logic.specs.History.{History, report, high, present, opened, before, earlier_run}
 use Rattle.logic.specs.Reach.{Stays}
-use Rattle.logic.specs.Rows.{nos, row, step, reach, moves}
+use Rattle.logic.specs.Rows.{nos, row, step, reach}
 use Rattle.logic.proofs.Rows.{length_row, length_before}
 use Rattle.logic.proofs.Events.{report_row, row_below_stays}
 use Rattle.logic.proofs.Reaches.{last_moved, runs_follow, stays_unmoved, differs_moved}

@@ -1,5 +1,5 @@
 -- The verdict, read from the newest run's record. Assumes nothing.
-use Rattle.std.proofs.Common.{◌≡◌, ℕ, ◌+◌, ◌-◌, ◌<◌, ◌≤◌, min, Bool, true, false, cond, eqb, List, ◌∷◌, length, get_or, sym, refl, ap, ◌∙◌, arith}
+use Rattle.std.proofs.Common.{◌≡◌, ℕ, ◌+◌, ◌-◌, ◌≤◌, min, Bool, true, false, cond, eqb, List, ◌∷◌, length, get_or, sym, refl, ap, ◌∙◌, arith}
 use Rattle.scales.specs.Algebra.{Algebra}
 use Rattle.stores.specs.Meaning.{Meaning, Sound, high_of, record_at}
 use Rattle.lines.specs.declared.line.Line.{Line}

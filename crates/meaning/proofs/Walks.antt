@@ -10,9 +10,9 @@ use Rattle.logic.specs.Rows.{row, step}
 use Rattle.logic.proofs.Events.{no_gap}
 use Rattle.logic.proofs.Reaches.{count_stops}
 use Rattle.meaning.specs.Records.{record_of, width, state_of, truths_of, past_of, with_truths}
-use Rattle.meaning.specs.Kept.{low, keeping, meaning}
+use Rattle.meaning.specs.Kept.{low, keeping}
 use Rattle.meaning.specs.Walking.{Held, Writes, Judged, Turned, mix, mixed, Reported, Begun, Sofar, Done, Looking, Seen, Looked}
-use Rattle.meaning.proofs.Reports.{high_is, kept_is, kept_long, mix_new, mix_old, mixed_next, mixed_last, record_same, later_record, later_truths, later_row, old_long}
+use Rattle.meaning.proofs.Reports.{high_is, kept_is, kept_long, mix_old, mixed_next, mixed_last, record_same, later_record, later_truths, later_row, old_long}
 
 -- a run that a store keeps as h has it
 module _ (S : Algebra) (ls : List Line) (atoms limit : ℕ) (h : History) (m : Meaning) (fn : ℕ → List ℕ) (m-is : m ≡ keeping ls atoms limit h fn) (sound : Sound m) where

@@ -5,19 +5,10 @@ use Rattle.judge.proofs.judge_row.Goals as goal
 pub loop-i-init : goal.loop-i-init
 loop-i-init g c = begun _ _ _ _ _ _
 
-pub slice-bounds-line-truth-end : goal.slice-bounds-line-truth-end
-slice-bounds-line-truth-end g c = omega arith
-
-pub bounds-out-i : goal.bounds-out-i
-bounds-out-i g c = omega arith
-
 pub loop-i-preserved : goal.loop-i-preserved
 loop-i-preserved g c =
     turn g.K.Scale.algebra c.args.table.now c.args.state.now c.args.past.now c.args.previous.now c.args.out.now c.loop-i.out c.loop-i.i
-    c.line-truth-t.result _ (omega arith) (omega arith) c.line-truth-t.ensures.value c.loop-i.invariant
-
-pub shape-of-out : goal.shape-of-out
-shape-of-out g c = c.loop-i.invariant.long
+    c.line_truth-t.result _ (omega arith) (omega arith) c.line_truth-t.ensures.value c.loop-i.invariant
 
 pub returns : goal.returns
 returns g c =

@@ -1,4 +1,4 @@
-use Rattle.std.proofs.Common.{◌≡◌, sym, refl, ap, ◌∙◌, arith}
+use Rattle.std.proofs.Common.{arith}
 use Rattle.lines.specs.declared.line.Line.TheVariants as line
 use Rattle.lines.proofs.Writing.{three}
 use Rattle.lines.proofs.table.Table.close.Goals as goal

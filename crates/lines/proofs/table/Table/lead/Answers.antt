@@ -1,4 +1,4 @@
-use Rattle.std.proofs.Common.{◌≡◌, ◌+◌, length, sym, refl, ap, ◌∙◌, add-zero, rules}
+use Rattle.std.proofs.Common.{◌≡◌, ◌+◌, length, sym, refl, ap, ◌∙◌, add-zero}
 use Rattle.lines.proofs.Writing.{stays, lead_none}
 use Rattle.lines.proofs.table.Table.lead.Goals as goal
 

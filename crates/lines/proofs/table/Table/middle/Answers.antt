@@ -1,4 +1,4 @@
-use Rattle.std.proofs.Common.{◌≡◌, length, refl, arith, rules}
+use Rattle.std.proofs.Common.{◌≡◌, length, arith}
 use Rattle.lines.proofs.Writing.{stays, middle_none}
 use Rattle.lines.proofs.table.Table.middle.Goals as goal
 
