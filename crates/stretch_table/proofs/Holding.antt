@@ -1,15 +1,12 @@
 -- Entries in memory: how they are read, and what a write to one, a shift and a new one make of them. Assumes nothing.
-use Rattle.std.proofs.Common.{◌≡◌, ℕ, suc, ◌+◌, ◌-◌, ◌*◌, ◌/◌, ◌%◌, ◌^◌, ◌<◌, ◌≤◌, List, [], ◌∷◌, ◌++◌, map, length, get_or, take, drop, replicate, sym, refl, ap, ◌∙◌, subst, append_assoc, append-nil, mod-eq_of_lt, suc-mul, add-mul, arith, length-append}
+use Rattle.std.proofs.Common.{◌≡◌, ℕ, ◌+◌, ◌-◌, ◌*◌, ◌/◌, ◌%◌, ◌^◌, ◌<◌, List, [], ◌∷◌, ◌++◌, length, replicate, sym, refl, ap, ◌∙◌, append_assoc, mod-eq_of_lt, suc-mul, arith, length-append}
 use native.Mathlib.Nat.{div-div-eq-div-mul, div-add-mod}
 use lib.ListN.{length-replicate}
-use lib.Seq.{paste}
 use Rattle.std.specs.List.{flat_map, AllByRecursion as All}
 use Rattle.std.proofs.ByRecursion.{All-append}
-use Rattle.std.proofs.lemmas.List.{get_or-append-add, take_at, drop_at}
-use Rattle.stretch_table.specs.Stretches.{Stretch, stretch}
-use Rattle.stretch_table.specs.Image.{four, entry, filled}
-use Rattle.stretch_table.specs.Entries.{number_at, stretch_at, Sized, Holds}
-use Rattle.stretch_table.proofs.Pastes.{paste_part, part_of, zeros}
+use Rattle.stretch_table.specs.Stretches.{Stretch}
+use Rattle.stretch_table.specs.Image.{entry}
+use Rattle.stretch_table.specs.Entries.{Sized, Holds}
 
 pub joined_append : (A B : List Stretch) → flat_map entry (A ++ B) ≡ flat_map entry A ++ flat_map entry B
 joined_append [] B = refl

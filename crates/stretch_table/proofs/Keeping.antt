@@ -1,5 +1,5 @@
 -- What is known of a stretch table's bytes, and when bytes are those of a stretch table. Assumes nothing.
-use Rattle.std.proofs.Common.{◌≡◌, ℕ, zero, suc, ◌+◌, ◌-◌, ◌*◌, ◌<◌, ◌≤◌, List, [], ◌∷◌, ◌++◌, map, length, take, drop, replicate, sym, refl, ap, ◌∙◌, subst, mul-le-mul_right, arith}
+use Rattle.std.proofs.Common.{◌≡◌, ℕ, zero, suc, ◌+◌, ◌-◌, ◌*◌, ◌<◌, ◌≤◌, List, [], ◌∷◌, ◌++◌, length, replicate, sym, ap, ◌∙◌, subst, mul-le-mul_right, arith}
 use Rattle.std.specs.List.{range_with_len, AllByRecursion as All}
 use Rattle.std.proofs.ByRecursion.{All-append, All-map, All-weaker}
 use Rattle.std.proofs.lemmas.List.{length-take, length-drop}
@@ -8,10 +8,10 @@ use Rattle.stores.specs.Meaning.{Meaning, IsRecord}
 use Rattle.stores.specs.declared.bounds.Bounds.{Bounds}
 use Rattle.stores.proofs.Bytes.{Bytes, bytes_from, from_bytes, bytes_part}
 use Rattle.stretch_table.specs.Stretches.{Stretch, stretches, records_of, Follow, Differ}
-use Rattle.stretch_table.specs.Image.{filled, image}
+use Rattle.stretch_table.specs.Image.{filled}
 use Rattle.stretch_table.specs.Entries.{stretch_at, stretches_in, Sized, Holds, meaning_of, Kept}
 use Rattle.stretch_table.proofs.Edits.{reads_all}
-use Rattle.stretch_table.proofs.Grouping.{runs, entries_few, ends}
+use Rattle.stretch_table.proofs.Grouping.{entries_few, ends}
 use Rattle.stretch_table.proofs.Places.{within}
 use Rattle.stretch_table.proofs.Stretches.{stand, alone}
 
