@@ -1,6 +1,6 @@
 -- Lines: cut one by one, and joined to the input again.
-use Rattle.std.proofs.Common.{◌≡◌, ℕ, zero, suc, ◌+◌, ◌-◌, ◌<◌, ◌≤◌, Bool, true, false, cond, eqb, List, [], ◌∷◌, ◌++◌, length, get_or, take, drop, sym, refl, ap, ◌∙◌, subst, append-nil, arith}
-use Rattle.std.specs.List.{flat_map, AllByRecursion as All}
+use Rattle.std.proofs.Common.{◌≡◌, ℕ, zero, suc, ◌-◌, ◌<◌, Bool, true, false, cond, eqb, List, [], ◌∷◌, ◌++◌, length, get_or, take, drop, sym, refl, ap, ◌∙◌, subst, append-nil, arith}
+use Rattle.std.specs.List.{AllByRecursion}
 use Rattle.std.proofs.lemmas.List.{take_rest, drop_all, nil_from_length}
 use Rattle.std.proofs.lemmas.Bool.{eqb-true, eqb-false, ne_eqb}
 use Rattle.calls.specs.Input.{Lacks, CutAt}
@@ -73,7 +73,7 @@ find : (bs : List ℕ) → Found bs
 find [] = record { first = []; others = []; found = refl; are = record { whole = refl; each = (λ k lt e. absurd (omega arith), tt) } }
 find (b ∷ bs) = step b bs (eqb b 10) refl (find bs)
 
-again : (first : List ℕ) (others : List (List ℕ)) → All (Lacks 10) (first ∷ others) → lines_of (joined_lines first others) ≡ first ∷ others
+again : (first : List ℕ) (others : List (List ℕ)) → AllByRecursion (Lacks 10) (first ∷ others) → lines_of (joined_lines first others) ≡ first ∷ others
 again first [] each = ap lines_of (append-nil first) ∙ one_line first each.0
 again first (m ∷ others) each = line_more first (joined_lines m others) each.0 ∙ ap (λ l. first ∷ l) (again m others each.1)
 

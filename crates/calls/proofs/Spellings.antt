@@ -1,5 +1,5 @@
 -- Digits read one by one, and that bytes spell at most one call.
-use Rattle.std.proofs.Common.{◌≡◌, ℕ, ◌+◌, ◌-◌, ◌*◌, ◌^◌, ◌<◌, ◌≤◌, ◌⊎◌, List, [], ◌∷◌, ◌++◌, length, get_or, take, drop, set, sym, refl, ap, ◌∙◌, subst, inl, inr, ⊎_elim, arith, length-append}
+use Rattle.std.proofs.Common.{◌≡◌, ℕ, ◌+◌, ◌-◌, ◌^◌, ◌<◌, ◌≤◌, ◌⊎◌, List, [], ◌∷◌, ◌++◌, length, get_or, take, drop, set, sym, refl, ap, ◌∙◌, subst, inl, inr, ⊎_elim, arith, length-append}
 use native.Mathlib.Nat.{pow-le-pow_right}
 use Rattle.std.proofs.lemmas.List.{take_all, take_more_set, take-map, map_more, length-map, get_or_at, length-take-le}
 use Rattle.std.proofs.lemmas.Int.Digits.{digits_value-lt}
@@ -7,12 +7,12 @@ use Rattle.std.proofs.lemmas.Str.Parse.{digit_at}
 use Rattle.std.proofs.lemmas.Bool.Decides.{nat_tests}
 use Rattle.std.specs.Str.Parse.{AllDigits, digits_value}
 use Rattle.std.specs.Int.{IsInRange, IsOutOfRange}
-use Rattle.std.specs.Char.{digit_value as digitValue}
+use Rattle.std.specs.Char.{digit_value as char_digit_value}
 use Rattle.calls.specs.Input.{Lacks, CutAt}
 use Rattle.calls.proofs.Cuts.{lacks_tail}
 use Rattle.calls.specs.Spelling.{digit_value, digit_values, Codes, RunNumber, RunAndCodes, Said, codes_in, start, report, preview, close, verdict, Spells, OneCall}
 
-pub digit_is : (c : ℕ) → IsInRange 48 57 c → digitValue c ≡ c - 48
+pub digit_is : (c : ℕ) → IsInRange 48 57 c → char_digit_value c ≡ c - 48
 digit_is c h = grind (arith, nat_tests)
 
 pub no_digit : (xs : List ℕ) (i : ℕ) → i < length xs → IsOutOfRange 48 57 (get_or xs i 0) → AllDigits 10 xs → ⊥

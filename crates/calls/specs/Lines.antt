@@ -1,6 +1,6 @@
 -- The lines of an input, and which of them are left to be walked. Assumes nothing.
 use Rattle.std.specs.Prelude.{◌≡◌, ℕ, ◌+◌, cond, List, [], ◌∷◌, ◌++◌, ◌==◌}
-use Rattle.std.specs.List.{flat_map, AllByRecursion as All}
+use Rattle.std.specs.List.{flat_map, AllByRecursion}
 use Rattle.calls.specs.Input.{Lacks}
 use Rattle.calls.specs.declared.lines.Lines.{Lines}
 
@@ -20,7 +20,7 @@ joined_lines l ls = l ++ flat_map (λ m. 10 ∷ m) ls
 -- an input has just these lines: they have no byte 10, and joined by it they are the input again
 pub record AreLines (bs first : List ℕ) (others : List (List ℕ)) : Type 0 where
   pub whole : bs ≡ joined_lines first others
-  pub each : All (Lacks 10) (first ∷ others)
+  pub each : AllByRecursion (Lacks 10) (first ∷ others)
 
 -- `lines_of` gives lines that are joined to the input, and there are no others
 abbrev pub LinesLaw : Type 0

@@ -6,38 +6,38 @@ use Rattle.calls.proofs.call.parse_call.Goals as goal
 pub returns-in-86 : goal.returns-in-86
 returns-in-86 c = alone c.args.line.now 86 (omega (arith, ltb-true, ltb-false)) (omega arith)
 
-pub returns-in-err-parse-codes : goal.returns-in-err-parse-codes
-returns-in-err-parse-codes c =
-    rw c.from-residual.ensures
-    (no_start _ _ (opened c.args.line.now 78 32 (omega (arith, ltb-false)) (omega arith) (omega arith)) c.in-err-parse-codes.ensures)
+pub returns-in_err-parse_codes-in-78 : goal.returns-in_err-parse_codes-in-78
+returns-in_err-parse_codes-in-78 c =
+    rw c.from_residual.ensures
+    (no_start _ _ (opened c.args.line.now 78 32 (omega (arith, ltb-false)) (omega arith) (omega arith)) c.in_err-parse_codes-in-78.ensures)
 
-pub returns-in-ok-parse-codes : goal.returns-in-ok-parse-codes
-returns-in-ok-parse-codes c =
-    (_, opened c.args.line.now 78 32 (omega (arith, ltb-false)) (omega arith) (omega arith), c.in-ok-parse-codes.ensures)
+pub returns-in_ok-parse_codes-in-78 : goal.returns-in_ok-parse_codes-in-78
+returns-in_ok-parse_codes-in-78 c =
+    (_, opened c.args.line.now 78 32 (omega (arith, ltb-false)) (omega arith) (omega arith), c.in_ok-parse_codes-in-78.ensures)
 
-pub returns-in-err-run : goal.returns-in-err-run
-returns-in-err-run c =
-    rw c.from-residual-in-err-run.ensures
-    (no_report _ _ (opened c.args.line.now 85 32 (omega (arith, ltb-false)) (omega arith) (omega arith)) c.in-err-run.ensures)
+pub returns-in_err-run-in-85 : goal.returns-in_err-run-in-85
+returns-in_err-run-in-85 c =
+    rw c.from_residual-in_err-run-in-85.ensures
+    (no_report _ _ (opened c.args.line.now 85 32 (omega (arith, ltb-false)) (omega arith) (omega arith)) c.in_err-run-in-85.ensures)
 
-pub returns-in-ok-run : goal.returns-in-ok-run
-returns-in-ok-run c =
-    (_, opened c.args.line.now 85 32 (omega (arith, ltb-false)) (omega arith) (omega arith), c.in-ok-run.ensures)
+pub returns-in_ok-run-in-85 : goal.returns-in_ok-run-in-85
+returns-in_ok-run-in-85 c =
+    (_, opened c.args.line.now 85 32 (omega (arith, ltb-false)) (omega arith) (omega arith), c.in_ok-run-in-85.ensures)
 
-pub returns-in-err-run-2 : goal.returns-in-err-run-2
-returns-in-err-run-2 c =
-    rw c.from-residual-in-err-run-2.ensures
-    (no_preview _ _ (opened c.args.line.now 80 32 (omega (arith, ltb-false)) (omega arith) (omega arith)) c.in-err-run-2.ensures)
+pub returns-in_err-run-in-80 : goal.returns-in_err-run-in-80
+returns-in_err-run-in-80 c =
+    rw c.from_residual-in_err-run-in-80.ensures
+    (no_preview _ _ (opened c.args.line.now 80 32 (omega (arith, ltb-false)) (omega arith) (omega arith)) c.in_err-run-in-80.ensures)
 
-pub returns-in-ok-run-2 : goal.returns-in-ok-run-2
-returns-in-ok-run-2 c =
-    (_, opened c.args.line.now 80 32 (omega (arith, ltb-false)) (omega arith) (omega arith), c.in-ok-run-2.ensures)
+pub returns-in_ok-run-in-80 : goal.returns-in_ok-run-in-80
+returns-in_ok-run-in-80 c =
+    (_, opened c.args.line.now 80 32 (omega (arith, ltb-false)) (omega arith) (omega arith), c.in_ok-run-in-80.ensures)
 
-pub returns-in-err-parse-run : goal.returns-in-err-parse-run
-returns-in-err-parse-run c =
-    rw c.from-residual-in-err-parse-run.ensures
-    (no_close _ _ (opened c.args.line.now 69 32 (omega (arith, ltb-false)) (omega arith) (omega arith)) c.in-err-parse-run.ensures)
+pub returns-in_err-parse_run-in-69 : goal.returns-in_err-parse_run-in-69
+returns-in_err-parse_run-in-69 c =
+    rw c.from_residual-in_err-parse_run-in-69.ensures
+    (no_close _ _ (opened c.args.line.now 69 32 (omega (arith, ltb-false)) (omega arith) (omega arith)) c.in_err-parse_run-in-69.ensures)
 
-pub returns-in-ok-parse-run : goal.returns-in-ok-parse-run
-returns-in-ok-parse-run c =
-    (_, opened c.args.line.now 69 32 (omega (arith, ltb-false)) (omega arith) (omega arith), c.in-ok-parse-run.ensures)
+pub returns-in_ok-parse_run-in-69 : goal.returns-in_ok-parse_run-in-69
+returns-in_ok-parse_run-in-69 c =
+    (_, opened c.args.line.now 69 32 (omega (arith, ltb-false)) (omega arith) (omega arith), c.in_ok-parse_run-in-69.ensures)
