@@ -1,10 +1,10 @@
 -- Parts of a record that are read and written, behind its first byte. Assumes nothing.
-use Rattle.std.proofs.Common.{◌≡◌, ℕ, zero, suc, ◌+◌, ◌-◌, ◌*◌, ◌<◌, ◌≤◌, List, [], ◌∷◌, ◌++◌, length, get_or, take, drop, set, replicate, sym, refl, ap, ◌∙◌, arith}
+use Rattle.std.proofs.Common.{◌≡◌, ℕ, ◌+◌, ◌-◌, ◌*◌, ◌<◌, ◌≤◌, List, [], ◌∷◌, ◌++◌, length, get_or, take, drop, set, replicate, sym, refl, ap, ◌∙◌, arith}
 use native.Mathlib.Nat.{sub-zero}
 use lib.Seq.{paste}
 use borrow.Rule.Slice.PartMut.{put_mid, post_of}
-use Rattle.std.proofs.lemmas.List.{append-nil, drop-drop, drop_all, drop-append-le, drop-take, length-take-le, length-drop, drop-replicate, replicate-append-replicate, take_rest, get_or-drop, get_or-take, nil_from_length}
-use Rattle.meaning.specs.Records.{state_of, truths_of, past_of, with_truths, renewed}
+use Rattle.std.proofs.lemmas.List.{append-nil, drop-drop, drop_all, drop-append-le, drop-take, length-take-le, length-drop, drop-replicate, replicate-append-replicate, take_rest, get_or-drop, get_or-take}
+use Rattle.meaning.specs.Records.{state_of, truths_of, with_truths, renewed}
 
 -- what lies behind the first byte, as a pattern has it
 abbrev pub rest_of : List ℕ → List ℕ

@@ -4,5 +4,5 @@ use Rattle.records.proofs.get_truths.Goals as goal
 
 pub returns-in-len1-up : goal.returns-in-len1-up
 returns-in-len1-up c = record {
-  after = c.copy-from-slice.ensures.after ∙ part_is c.args.rec.now c.args.atoms (length c.args.out.now);
+  after = c.copy_from_slice.ensures.after ∙ part_is c.args.rec.now c.args.atoms (length c.args.out.now);
 }

@@ -14,13 +14,13 @@ use Rattle.meaning.proofs.Refusals.{none_from_unless, some_from_unless, run_by, 
 use Rattle.meaning.proofs.Walks.{lows}
 use Rattle.monitor.proofs.asking.truth.Goals as goal
 
-pub returns-in-err-check-run : goal.returns-in-err-check-run
-returns-in-err-check-run g c =
+pub returns-in_err-check_run : goal.returns-in_err-check_run
+returns-in_err-check_run g c =
     let m = g.S.Store.meaning c.args.store.now in
     let run = c.args.run in
-    let p = err_from_is_err_and c.from-residual.result c.from-residual.ensures.1 in
-    let f = c.in-err-check-run.field-0.0 in
-    let bad : run_refusal (high_of m) run ≡ Some f = some_from_unless _ tt f (c.in-err-check-run.ensures.value ∙ ap (λ n. unless (run_refusal n run) tt) c.high.ensures.value) in
+    let p = err_from_is_err_and c.from_residual.result c.from_residual.ensures.1 in
+    let f = c.in_err-check_run.field-0.0 in
+    let bad : run_refusal (high_of m) run ≡ Some f = some_from_unless _ tt f (c.in_err-check_run.ensures.value ∙ ap (λ n. unless (run_refusal n run) tt) c.high.ensures.value) in
     record {
       value = λ K ls h rep long.
           p.1 ∙ ap Err p.2
@@ -31,7 +31,7 @@ pub returns-then-run-low : goal.returns-then-run-low
 returns-then-run-low g c =
     let m = g.S.Store.meaning c.args.store.now in
     let run = c.args.run in
-    let there : run_refusal (high_of m) run ≡ None = none_from_unless _ tt tt (c.in-ok-check-run.ensures.value ∙ ap (λ n. unless (run_refusal n run) tt) c.high.ensures.value) in
+    let there : run_refusal (high_of m) run ≡ None = none_from_unless _ tt tt (c.in_ok-check_run.ensures.value ∙ ap (λ n. unless (run_refusal n run) tt) c.high.ensures.value) in
     let lt : run < m.low = subst (λ n. run < n) c.low.ensures.value c.if-run-low.true in
     record {
       value = λ K ls h rep long.
@@ -43,7 +43,7 @@ returns-then-line-lines g c =
     let m = g.S.Store.meaning c.args.store.now in
     let run = c.args.run in
     let line = c.args.line in
-    let there : run_refusal (high_of m) run ≡ None = none_from_unless _ tt tt (c.in-ok-check-run.ensures.value ∙ ap (λ n. unless (run_refusal n run) tt) c.high.ensures.value) in
+    let there : run_refusal (high_of m) run ≡ None = none_from_unless _ tt tt (c.in_ok-check_run.ensures.value ∙ ap (λ n. unless (run_refusal n run) tt) c.high.ensures.value) in
     let kept : m.low ≤ run = subst (λ n. n ≤ run) c.low.ensures.value c.if-run-low.false in
     record {
       value = λ K ls h rep long.
@@ -59,7 +59,7 @@ returns g c =
     let line = c.args.line in
     let a = c.args.atoms in
     let sound = g.met.S.Store.sound c.args.store.now in
-    let there : run_refusal (high_of m) run ≡ None = none_from_unless _ tt tt (c.in-ok-check-run.ensures.value ∙ ap (λ n. unless (run_refusal n run) tt) c.high.ensures.value) in
+    let there : run_refusal (high_of m) run ≡ None = none_from_unless _ tt tt (c.in_ok-check_run.ensures.value ∙ ap (λ n. unless (run_refusal n run) tt) c.high.ensures.value) in
     let kept : m.low ≤ run = subst (λ n. n ≤ run) c.low.ensures.value c.if-run-low.false in
     let rec = c.fetch.new.rec in
     record {
@@ -68,7 +68,7 @@ returns g c =
           let l = lows K ls a m.limit h m (record_of K ls h) rep sound in
           let lo : low h ≤ run = omega arith in
           let in-h = run_there (high h) run (run_by K ls a h m rep sound run None there) in
-          ap Ok (c.truth-at.ensures.value ∙ ap (λ n. get_or (truths_of a n rec) line 0) (sym long)
+          ap Ok (c.truth_at.ensures.value ∙ ap (λ n. get_or (truths_of a n rec) line 0) (sym long)
           ∙ line_is K ls a h run line rec below (kept_truths K ls a h m rep sound run lo in-h.1)
           (read_record K ls a h m rep sound run there (length c.args.rec.now) rec kept (c.requires ∙ ap (λ n. 1 + a + 2 * n) (sym long)) c.fetch.ensures))
           ∙ sym (ap (λ o. unless o (line_truth K ls h run line)) (truth_held K ls a h m rep sound run there line kept ∙ ap (λ b. cond b None (Some (NoLine line))) (lt-ltb line (length ls) below)));

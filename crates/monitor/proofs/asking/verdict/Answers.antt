@@ -30,7 +30,7 @@ returns g c = record {
       let some : high h ≡ 0 → ⊥ = λ e. c.if-newest-eq0.false (c.high-newest.ensures.value ∙ t ∙ e) in
       let one : 1 ≤ high h = omega arith in
       let rec = c.fetch.new.rec in
-      ap Ok (c.truth-at.ensures.value ∙ ap (λ n. get_or (truths_of a n rec) (n - 1) 0) (sym long)
+      ap Ok (c.truth_at.ensures.value ∙ ap (λ n. get_or (truths_of a n rec) (n - 1) 0) (sym long)
       ∙ verdict_is K ls a h m rep sound one (length c.args.rec.now) rec (subst (λ n. 1 ≤ n) (sym long) c.requires.some) (c.requires.rec ∙ ap (λ n. 1 + a + 2 * n) (sym long))
       (subst (λ n. Reads m (length c.args.rec.now) n rec) c.high-newest.ensures.value c.fetch.ensures))
       ∙ sym (ap (λ b. unless (cond b (Some NoRuns) None) (verdict K ls h)) (ne_eqb (high h) 0 some));

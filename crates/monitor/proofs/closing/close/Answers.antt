@@ -9,17 +9,17 @@ use Rattle.meaning.proofs.Closes.{closes}
 use Rattle.meaning.proofs.Refusals.{none_from_unless, some_from_unless, open_since}
 use Rattle.monitor.proofs.closing.close.Goals as goal
 
-pub returns-in-err-read-open : goal.returns-in-err-read-open
-returns-in-err-read-open g c =
+pub returns-in_err-read_open : goal.returns-in_err-read_open
+returns-in_err-read_open g c =
     let m = g.S.Store.meaning c.args.store.now in
     let run = c.args.run in
-    let p = err_from_is_err_and c.from-residual.result c.from-residual.ensures.1 in
-    let f = c.in-err-read-open.field-0.0 in
+    let p = err_from_is_err_and c.from_residual.result c.from_residual.ensures.1 in
+    let f = c.in_err-read_open.field-0.0 in
     record {
       value = λ K ls atoms h rep long.
-          p.1 ∙ ap Err p.2 ∙ sym (ap (λ o. unless o (low (close run ∷ h) - low h)) (some_from_unless (open_refusal h run) tt f (c.in-err-read-open.ensures.value K ls atoms h rep long)));
+          p.1 ∙ ap Err p.2 ∙ sym (ap (λ o. unless o (low (close run ∷ h) - low h)) (some_from_unless (open_refusal h run) tt f (c.in_err-read_open.ensures.value K ls atoms h rep long)));
       after = λ K ls atoms h rep long.
-          rep ∙ sym (ap (λ o. meaning K ls atoms m.limit (added o (close run) h)) (some_from_unless (open_refusal h run) tt f (c.in-err-read-open.ensures.value K ls atoms h rep long)));
+          rep ∙ sym (ap (λ o. meaning K ls atoms m.limit (added o (close run) h)) (some_from_unless (open_refusal h run) tt f (c.in_err-read_open.ensures.value K ls atoms h rep long)));
       same = refl;
     }
 
@@ -30,22 +30,22 @@ returns g c =
     let run = c.args.run in
     record {
       value = λ K ls atoms h rep long.
-          let free = none_from_unless (open_refusal h run) tt tt (c.in-ok-read-open.ensures.value K ls atoms h rep long) in
+          let free = none_from_unless (open_refusal h run) tt tt (c.in_ok-read_open.ensures.value K ls atoms h rep long) in
           let since = open_since h run free in
           let some = since.0 in
           let most = since.1 in
-          let wide = c.close-record.auto.rec ∙ c.read-open.auto.rec ∙ long in
-          let closed = closes K ls atoms h run m (g.S.Store.meaning c.keep.new.store) c.close-record.new.rec (length c.close-record.new.rec) rep sound wide (low_open h run some most since.2).0 most
-          (c.close-record.ensures.after ∙ ap (λ x. set x 0 0) (c.in-ok-read-open.ensures.after K ls atoms h rep long)) c.keep.ensures.after in
-          ap Ok (c.forget-old-gone.ensures.value K ls atoms m.limit h run closed (omega arith) wide) ∙ sym (ap (λ o. unless o (low (close run ∷ h) - low h)) free);
+          let wide = c.close_record.auto.rec ∙ c.read_open.auto.rec ∙ long in
+          let closed = closes K ls atoms h run m (g.S.Store.meaning c.keep.new.store) c.close_record.new.rec (length c.close_record.new.rec) rep sound wide (low_open h run some most since.2).0 most
+          (c.close_record.ensures.after ∙ ap (λ x. set x 0 0) (c.in_ok-read_open.ensures.after K ls atoms h rep long)) c.keep.ensures.after in
+          ap Ok (c.forget_old-gone.ensures.value K ls atoms m.limit h run closed (omega arith) wide) ∙ sym (ap (λ o. unless o (low (close run ∷ h) - low h)) free);
       after = λ K ls atoms h rep long.
-          let free = none_from_unless (open_refusal h run) tt tt (c.in-ok-read-open.ensures.value K ls atoms h rep long) in
+          let free = none_from_unless (open_refusal h run) tt tt (c.in_ok-read_open.ensures.value K ls atoms h rep long) in
           let since = open_since h run free in
           let some = since.0 in
           let most = since.1 in
-          let wide = c.close-record.auto.rec ∙ c.read-open.auto.rec ∙ long in
-          let closed = closes K ls atoms h run m (g.S.Store.meaning c.keep.new.store) c.close-record.new.rec (length c.close-record.new.rec) rep sound wide (low_open h run some most since.2).0 most
-          (c.close-record.ensures.after ∙ ap (λ x. set x 0 0) (c.in-ok-read-open.ensures.after K ls atoms h rep long)) c.keep.ensures.after in
-          c.forget-old-gone.ensures.after K ls atoms m.limit h run closed (omega arith) wide ∙ sym (ap (λ o. meaning K ls atoms m.limit (added o (close run) h)) free);
-      same = c.forget-old-gone.ensures.same ∙ c.keep.ensures.same;
+          let wide = c.close_record.auto.rec ∙ c.read_open.auto.rec ∙ long in
+          let closed = closes K ls atoms h run m (g.S.Store.meaning c.keep.new.store) c.close_record.new.rec (length c.close_record.new.rec) rep sound wide (low_open h run some most since.2).0 most
+          (c.close_record.ensures.after ∙ ap (λ x. set x 0 0) (c.in_ok-read_open.ensures.after K ls atoms h rep long)) c.keep.ensures.after in
+          c.forget_old-gone.ensures.after K ls atoms m.limit h run closed (omega arith) wide ∙ sym (ap (λ o. meaning K ls atoms m.limit (added o (close run) h)) free);
+      same = c.forget_old-gone.ensures.same ∙ c.keep.ensures.same;
     }

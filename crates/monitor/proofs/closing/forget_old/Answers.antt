@@ -19,16 +19,16 @@ returns g c =
           let t = highs K ls atoms limit h m (record_of K ls (close run ∷ h)) is sound in
           let l = lows K ls atoms limit h m (record_of K ls (close run ∷ h)) is sound in
           let found = c.lowest_open.ensures.value (long ∙ sym (wide K ls atoms limit h m (record_of K ls (close run ∷ h)) is sound)) ∙ search_is K ls atoms limit h run m is sound in
-          let low_is : c.lowest-kept-low.result ≡ low (close run ∷ h) = c.lowest-kept-low.ensures.value ∙ (λ i. low_by ((c.high.ensures.value ∙ t) i) (found i)) in
-          c.saturating-sub.ensures ∙ (λ i. low_is i - (c.low-old.ensures.value ∙ l) i);
+          let low_is : c.lowest_kept-low.result ≡ low (close run ∷ h) = c.lowest_kept-low.ensures.value ∙ (λ i. low_by ((c.high.ensures.value ∙ t) i) (found i)) in
+          c.saturating_sub.ensures ∙ (λ i. low_is i - (c.low-old.ensures.value ∙ l) i);
       after = λ K ls atoms limit h run is some long.
           let t = highs K ls atoms limit h m (record_of K ls (close run ∷ h)) is sound in
           let l = lows K ls atoms limit h m (record_of K ls (close run ∷ h)) is sound in
           let found = c.lowest_open.ensures.value (long ∙ sym (wide K ls atoms limit h m (record_of K ls (close run ∷ h)) is sound)) ∙ search_is K ls atoms limit h run m is sound in
-          let low_is : c.lowest-kept-low.result ≡ low (close run ∷ h) = c.lowest-kept-low.ensures.value ∙ (λ i. low_by ((c.high.ensures.value ∙ t) i) (found i)) in
+          let low_is : c.lowest_kept-low.result ≡ low (close run ∷ h) = c.lowest_kept-low.ensures.value ∙ (λ i. low_by ((c.high.ensures.value ∙ t) i) (found i)) in
           let more = low_more K ls atoms limit h run in
           let most = low_most (close run ∷ h) some in
-          let at = c.lowest-kept-low.result in
+          let at = c.lowest_kept-low.result in
           let ok = c.forget.ensures.value ∙ ap answer (run_held m at (omega arith) (omega arith)) in
           close_drops K ls atoms limit h run m is sound (g.S.Store.meaning c.forget.new.self)
           (c.forget.ensures.after ∙ ap (λ r. cond (is_ok r) (forgotten m at) m) ok ∙ ap (forgotten m) low_is);

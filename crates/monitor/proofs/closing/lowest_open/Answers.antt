@@ -16,11 +16,11 @@ loop-run-preserved g c =
       λ long.
           let was = sym c.fetch.auto.rec ∙ long in
           search_goes m c.loop-run.run (c.high-run-end.result + 1) c.fetch.new.rec lt (c.fetch.ensures (record { long = was; above = lo; inside = omega arith }))
-          (sym c.is-open.ensures.value ∙ c.if-is-open.false) ∙ inv.1 was,
+          (sym c.is_open.ensures.value ∙ c.if-is_open.false) ∙ inv.1 was,
     )
 
-pub returns-then-is-open : goal.returns-then-is-open
-returns-then-is-open g c =
+pub returns-then-is_open : goal.returns-then-is_open
+returns-then-is_open g c =
     let m = g.S.Store.meaning c.args.store.now in
     let inv = c.loop-run.invariant in
     let lo = inv.0 in
@@ -30,7 +30,7 @@ returns-then-is-open g c =
     record {
       value = λ long.
           let was = c.loop-run.auto.rec ∙ long in
-          sym (search_stops m c.loop-run.run (c.high-run-end.result + 1) c.fetch.new.rec lt (c.fetch.ensures (record { long = was; above = lo; inside = inside })) (sym c.is-open.ensures.value ∙ c.if-is-open.true))
+          sym (search_stops m c.loop-run.run (c.high-run-end.result + 1) c.fetch.new.rec lt (c.fetch.ensures (record { long = was; above = lo; inside = inside })) (sym c.is_open.ensures.value ∙ c.if-is_open.true))
           ∙ inv.1 was ∙ ap (λ n. lowest (λ j. is_open (record_at m j)) m.low (n + 1 - m.low)) hi;
     }
 

@@ -9,18 +9,18 @@ use Rattle.meaning.proofs.Refusals.{none_from_unless, some_from_unless, report_s
 use Rattle.meaning.proofs.Verdicts.{verdict_after, newest_looked}
 use Rattle.monitor.proofs.reporting.preview.Goals as goal
 
-pub returns-in-err-renewed-record : goal.returns-in-err-renewed-record
-returns-in-err-renewed-record g c =
+pub returns-in_err-renewed_record : goal.returns-in_err-renewed_record
+returns-in_err-renewed_record g c =
     let S = g.K.Scale.algebra in
     let ls = c.args.table.now in
     let run = c.args.run in
     let q = c.args.codes.now in
-    let p = err_from_is_err_and c.from-residual.result c.from-residual.ensures.1 in
-    let f = c.in-err-renewed-record.field-0.0 in
+    let p = err_from_is_err_and c.from_residual.result c.from_residual.ensures.1 in
+    let f = c.in_err-renewed_record.field-0.0 in
     record {
       value = λ h rep.
           p.1 ∙ ap Err p.2
-          ∙ sym (ap (λ o. unless o (verdict S ls (report run q ∷ h))) (some_from_unless (report_refusal S c.args.atoms h run q) tt f (c.in-err-renewed-record.ensures.value h rep)));
+          ∙ sym (ap (λ o. unless o (verdict S ls (report run q ∷ h))) (some_from_unless (report_refusal S c.args.atoms h run q) tt f (c.in_err-renewed_record.ensures.value h rep)));
     }
 
 pub returns : goal.returns
@@ -33,16 +33,16 @@ returns g c =
     let m = g.S.Store.meaning c.args.store.now in
     let sound = g.met.S.Store.sound c.args.store.now in
     let last = c.look-last.result in
-    let long = c.renewed-record.auto.rec ∙ c.requires.rec in
+    let long = c.renewed_record.auto.rec ∙ c.requires.rec in
     record {
       value = λ h rep.
-          let free = none_from_unless (report_refusal S a h run q) tt tt (c.in-ok-renewed-record.ensures.value h rep) in
-          let b = c.in-ok-renewed-record.ensures.after h rep in
+          let free = none_from_unless (report_refusal S a h run q) tt tt (c.in_ok-renewed_record.ensures.value h rep) in
+          let b = c.in_ok-renewed_record.ensures.after h rep in
           let some = b.reported.some in
           let most = b.reported.most in
           let one : 1 ≤ high h = omega arith in
           let codes = (report_since S a h run q free).1 in
-          ap Ok (c.rule-truth-truth.ensures (record_of S ls (report run q ∷ h) (high h))
+          ap Ok (c.rule_truth-truth.ensures (record_of S ls (report run q ∷ h) (high h))
           (newest_looked S ls a h m rep sound one run q codes last (length c.look-last.new.rec) c.look-last.new.rec (c.look-last.auto.rec ∙ long) (c.look-last.ensures h q b))
           ∙ verdict_after S ls a h m rep sound one run q codes c.requires.some)
           ∙ sym (ap (λ o. unless o (verdict S ls (report run q ∷ h))) free);

@@ -13,21 +13,21 @@ use Rattle.meaning.proofs.Reports.{reports_reach, store_reach}
 use Rattle.meaning.proofs.Verdicts.{verdict_after, newest_done}
 use Rattle.monitor.proofs.reporting.report.Goals as goal
 
-pub returns-in-err-renewed-record : goal.returns-in-err-renewed-record
-returns-in-err-renewed-record g c =
+pub returns-in_err-renewed_record : goal.returns-in_err-renewed_record
+returns-in_err-renewed_record g c =
     let S = g.K.Scale.algebra in
     let ls = c.args.table.now in
     let a = c.args.atoms in
     let run = c.args.run in
     let q = c.args.codes.now in
     let m = g.S.Store.meaning c.args.store.now in
-    let p = err_from_is_err_and c.from-residual.result c.from-residual.ensures.1 in
-    let f = c.in-err-renewed-record.field-0.0 in
+    let p = err_from_is_err_and c.from_residual.result c.from_residual.ensures.1 in
+    let f = c.in_err-renewed_record.field-0.0 in
     record {
       value = λ h rep.
           p.1 ∙ ap Err p.2
-          ∙ sym (ap (λ o. unless o (reach S ls run q h, verdict S ls (report run q ∷ h))) (some_from_unless (report_refusal S a h run q) tt f (c.in-err-renewed-record.ensures.value h rep)));
-      after = λ h rep. rep ∙ sym (ap (λ o. meaning S ls a m.limit (added o (report run q) h)) (some_from_unless (report_refusal S a h run q) tt f (c.in-err-renewed-record.ensures.value h rep)));
+          ∙ sym (ap (λ o. unless o (reach S ls run q h, verdict S ls (report run q ∷ h))) (some_from_unless (report_refusal S a h run q) tt f (c.in_err-renewed_record.ensures.value h rep)));
+      after = λ h rep. rep ∙ sym (ap (λ o. meaning S ls a m.limit (added o (report run q) h)) (some_from_unless (report_refusal S a h run q) tt f (c.in_err-renewed_record.ensures.value h rep)));
       reach = λ h rep. subst (λ r. IfOk r (λ x. Reach S ls h run q x.0 × StoreReach m m run x.0)) (sym p.1) tt;
       same = refl;
     }
@@ -45,30 +45,30 @@ returns g c =
     let last = c.walk-last.result in
     let bound = c.walk-last.ensures.bound in
     let up = bound.0 in
-    let long = c.renewed-record.auto.rec ∙ c.requires.rec in
+    let long = c.renewed_record.auto.rec ∙ c.requires.rec in
     record {
       value = λ h rep.
-          let free = none_from_unless (report_refusal S a h run q) tt tt (c.in-ok-renewed-record.ensures.value h rep) in
-          let b = c.in-ok-renewed-record.ensures.after h rep in
-          let d = c.walk-last.ensures.done m.limit h q (begun S ls a m (g.S.Store.meaning c.keep.new.store) _ _ run h q (length c.renewed-record.new.rec) sound long b c.keep.ensures.after) in
+          let free = none_from_unless (report_refusal S a h run q) tt tt (c.in_ok-renewed_record.ensures.value h rep) in
+          let b = c.in_ok-renewed_record.ensures.after h rep in
+          let d = c.walk-last.ensures.done m.limit h q (begun S ls a m (g.S.Store.meaning c.keep.new.store) _ _ run h q (length c.renewed_record.new.rec) sound long b c.keep.ensures.after) in
           let size = d.last_is in
           let count : last - run + 1 ≡ reach S ls run q h = omega arith in
           let some = b.reported.some in
           let most = b.reported.most in
           let one : 1 ≤ high h = omega arith in
           let codes = (report_since S a h run q free).1 in
-          let truth = c.rule-truth-truth.ensures (record_of S ls (report run q ∷ h) (high h))
+          let truth = c.rule_truth-truth.ensures (record_of S ls (report run q ∷ h) (high h))
           (newest_done S ls a h m rep sound one run q codes last (length c.walk-last.new.rec) c.walk-last.new.rec (c.walk-last.auto.rec ∙ long) m' (g.met.S.Store.sound c.walk-last.new.store) d)
           ∙ verdict_after S ls a h m rep sound one run q codes c.requires.some in
           (λ i. Ok (count i, truth i)) ∙ sym (ap (λ o. unless o (reach S ls run q h, verdict S ls (report run q ∷ h))) free);
       after = λ h rep.
-          let free = none_from_unless (report_refusal S a h run q) tt tt (c.in-ok-renewed-record.ensures.value h rep) in
-          let b = c.in-ok-renewed-record.ensures.after h rep in
-          let d = c.walk-last.ensures.done m.limit h q (begun S ls a m (g.S.Store.meaning c.keep.new.store) _ _ run h q (length c.renewed-record.new.rec) sound long b c.keep.ensures.after) in
+          let free = none_from_unless (report_refusal S a h run q) tt tt (c.in_ok-renewed_record.ensures.value h rep) in
+          let b = c.in_ok-renewed_record.ensures.after h rep in
+          let d = c.walk-last.ensures.done m.limit h q (begun S ls a m (g.S.Store.meaning c.keep.new.store) _ _ run h q (length c.renewed_record.new.rec) sound long b c.keep.ensures.after) in
           d.model_is ∙ sym (ap (λ o. meaning S ls a m.limit (added o (report run q) h)) free);
       reach = λ h rep.
-          let b = c.in-ok-renewed-record.ensures.after h rep in
-          let d = c.walk-last.ensures.done m.limit h q (begun S ls a m (g.S.Store.meaning c.keep.new.store) _ _ run h q (length c.renewed-record.new.rec) sound long b c.keep.ensures.after) in
+          let b = c.in_ok-renewed_record.ensures.after h rep in
+          let d = c.walk-last.ensures.done m.limit h q (begun S ls a m (g.S.Store.meaning c.keep.new.store) _ _ run h q (length c.renewed_record.new.rec) sound long b c.keep.ensures.after) in
           let size = d.last_is in
           let count : last - run + 1 ≡ reach S ls run q h = omega arith in
           let reached : Reach S ls h run q (last - run + 1) = subst (Reach S ls h run q) (sym count) (reports_reach S g.met.K.Scale.holds a ls c.requires.formed h run q b.reported.most) in

@@ -16,7 +16,7 @@ loop-last-preserved g c =
           let m = g.S.Store.meaning c.args.store.now in
           look_moves g.K.Scale.algebra c.args.table.now c.args.atoms m _ _ c.args.run h q (g.met.S.Store.sound c.args.store.now) b
           c.loop-last.rec c.loop-last.previous c.loop-last.last up (inv.1 h q b) (length c.loop-last.rec) c.turn.new.out c.turn.new.rec c.turn.result (c.loop-last.auto.rec ∙ c.requires.rec)
-          (subst (λ n. c.loop-last.last < n) c.high-newest.ensures.value c.loop-last-test.true) c.turn.ensures c.copy-from-slice.new.self c.copy-from-slice.ensures.after,
+          (subst (λ n. c.loop-last.last < n) c.high-newest.ensures.value c.loop-last-test.true) c.turn.ensures c.copy_from_slice.new.self c.copy_from_slice.ensures.after,
     )
 
 pub returns-after-loop-last : goal.returns-after-loop-last

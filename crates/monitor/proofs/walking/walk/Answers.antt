@@ -7,8 +7,8 @@ use Rattle.monitor.proofs.walking.walk.Goals as goal
 pub loop-last-init : goal.loop-last-init
 loop-last-init g c = (omega arith, omega arith, refl, λ limit h q b. sofar_first g.K.Scale.algebra c.args.table.now c.args.atoms _ _ _ c.args.run limit h q b)
 
-pub overflow-add-last-in-loop-last-2 : goal.overflow-add-last-in-loop-last-2
-overflow-add-last-in-loop-last-2 g c = let lt = c.loop-last-test.true in let fits = c.high-newest.type-inv in omega arith
+pub overflow_add-last-in-loop-last-2 : goal.overflow_add-last-in-loop-last-2
+overflow_add-last-in-loop-last-2 g c = let lt = c.loop-last-test.true in let fits = c.high-newest.type_inv in omega arith
 
 pub loop-last-preserved : goal.loop-last-preserved
 loop-last-preserved g c =
@@ -31,8 +31,8 @@ loop-last-preserved g c =
           subst (λ n. c.loop-last.last < n) (is ∙ same_high S ls c.args.atoms m₀ _ _ c.args.run limit h q b m _ _ c.loop-last.last f) lt in
           moves S ls c.args.atoms m₀ _ _ c.args.run limit h q b m c.loop-last.rec c.loop-last.previous c.loop-last.last (g.met.S.Store.sound c.loop-last.store) up f
           (length c.loop-last.rec) c.turn.new.out c.turn.new.rec c.turn.result (c.loop-last.auto.rec ∙ c.requires.rec) inside c.turn.ensures
-          (g.S.Store.meaning c.keep.new.store) c.copy-from-slice.new.self c.if-turn.false
-          (subst (λ n. Writes m (g.S.Store.meaning c.keep.new.store) n (c.loop-last.last + 1) c.turn.new.rec) c.turn.auto.rec c.keep.ensures.after) c.copy-from-slice.ensures.after,
+          (g.S.Store.meaning c.keep.new.store) c.copy_from_slice.new.self c.if-turn.false
+          (subst (λ n. Writes m (g.S.Store.meaning c.keep.new.store) n (c.loop-last.last + 1) c.turn.new.rec) c.turn.auto.rec c.keep.ensures.after) c.copy_from_slice.ensures.after,
     )
 
 pub returns-after-loop-last : goal.returns-after-loop-last
