@@ -17,6 +17,7 @@ use std::io::{BufRead, BufReader, BufWriter, Read, Write};
 
 mod books;
 mod hex;
+mod inputs;
 mod steps;
 mod tables;
 mod texts;
@@ -36,6 +37,7 @@ fn run_case<W: Write + Drop>(
         "text" => texts::run(out, heap, words.next().unwrap_or("")),
         "table" => tables::run(out, heap, line),
         "book" => books::run(out, heap, line),
+        "input" => inputs::run(out, heap, words.next().unwrap_or("")),
         _ => Err(anyhow!("no case")),
     }
 }

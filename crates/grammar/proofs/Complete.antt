@@ -1,14 +1,14 @@
 -- Whatever the grammar derives, the machine reads: completeness, and from it that there is one reading.
-use Rattle.std.proofs.Common.{◌≡◌, ℕ, Bool, true, false, cond, List, [], ◌∷◌, ◌++◌, Some, None, Option, sym, refl, ap, ◌∙◌, append_assoc}
+use Rattle.std.proofs.Common.{◌≡◌, ℕ, false, cond, List, [], ◌∷◌, ◌++◌, Some, None, Option, sym, refl, ap, ◌∙◌, append_assoc}
 use Rattle.lines.specs.declared.line.Prefix.{Prefix}
 use Rattle.lines.specs.declared.line.Prefix.TheVariants as single
 use Rattle.lines.specs.declared.line.Infix.{Infix}
 use Rattle.lines.specs.declared.line.Infix.TheVariants as pair
-use Rattle.lines.specs.Forms.{Form, atom, no, yes, prefixed, joined}
-use Rattle.signs.specs.declared.sign.Mark.TheVariants.{Open, Close, And, Or, Arrow, Comma, Semicolon, Stop, SL, SG, Atoms, Rule}
-use Rattle.signs.specs.Signs.{Kind, mark, name, end}
+use Rattle.lines.specs.Forms.{Form, joined}
+use Rattle.signs.specs.declared.sign.Mark.TheVariants.{Close, And, Or, Arrow, Comma, Semicolon, Stop, SL, SG, Rule}
+use Rattle.signs.specs.Signs.{Kind, mark, name}
 use Rattle.grammar.specs.Grammar.{IsUnit, is_name, is_true, is_false, is_prefixed, is_bracketed, IsLink, is_unit, is_since_local, is_since_global, IsConj, is_link, is_and, IsDisj, is_conj, is_or, IsForm, is_disj, is_implies, AreNames, one_name, one_more, IsPolicy, is_policy}
-use Rattle.grammar.specs.Machine.{is_mark, since_of, wrapped, join, Lefts, Bracket, due, unit_read, link_read, conj_read, disj_read, form_read, State, begun, name_due, name_read, rule_due, in_rule, stopped, lefts, no_lefts, choose, after_form, after_disj, after_conj, after_link, step, steps}
+use Rattle.grammar.specs.Machine.{is_mark, since_of, wrapped, Lefts, Bracket, due, unit_read, link_read, conj_read, disj_read, form_read, State, begun, name_due, name_read, in_rule, stopped, lefts, no_lefts, choose, after_form, after_disj, after_conj, after_link, steps}
 
 -- what comes behind a link, a conj, a disj and a form
 abbrev pub PastLink : List Kind → Type 0

@@ -4,8 +4,8 @@ use Rattle.lines.specs.declared.line.Infix.{Infix}
 use Rattle.lines.specs.Forms.{Form}
 use Rattle.signs.specs.declared.sign.Mark.TheVariants.{Close, Semicolon, Stop, Atoms, Rule, True}
 use Rattle.signs.specs.Signs.{Kind, mark, name}
-use Rattle.grammar.specs.Grammar.{IsPolicy, Begins}
-use Rattle.grammar.specs.Machine.{wrapped, Lefts, Bracket, Point, due, unit_read, link_read, conj_read, disj_read, form_read, State, begun, name_due, name_read, rule_due, in_rule, stopped, lefts, choose, step, steps}
+use Rattle.grammar.specs.Grammar.{Begins}
+use Rattle.grammar.specs.Machine.{Bracket, Point, due, unit_read, link_read, conj_read, disj_read, form_read, State, begun, name_due, name_read, rule_due, in_rule, stopped, lefts, choose, step, steps}
 use Rattle.grammar.proofs.Complete.{policy_complete}
 use Rattle.grammar.proofs.Sound.{AtPoint, Leads, steps_lead, policy_sound}
 

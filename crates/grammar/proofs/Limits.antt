@@ -1,19 +1,16 @@
 -- The limits that the machine tests are those that the signs read so far give.
-use Rattle.std.proofs.Common.{◌≡◌, ℕ, suc, Bool, true, false, cond, ◌||◌, ltb, List, [], ◌∷◌, ◌++◌, length, Some, None, Option, sym, refl, ap, ◌∙◌, subst, append_assoc, append-nil, arith, length-append}
+use Rattle.std.proofs.Common.{◌≡◌, ℕ, suc, Bool, true, false, cond, ◌||◌, ltb, List, [], ◌∷◌, ◌++◌, length, Some, None, Option, sym, refl, ap, ◌∙◌, append-nil, arith}
 use Rattle.lines.specs.declared.line.Prefix.{Prefix}
-use Rattle.lines.specs.declared.line.Prefix.TheVariants as single
 use Rattle.lines.specs.declared.line.Infix.{Infix}
 use Rattle.lines.specs.declared.line.Infix.TheVariants as pair
-use Rattle.lines.specs.Forms.{Form, atom, no, yes, prefixed, joined}
+use Rattle.lines.specs.Forms.{Form, no, yes, joined}
 use Rattle.signs.specs.declared.sign.Mark.{Mark}
 use Rattle.signs.specs.declared.sign.Mark.TheVariants.{Open, Close, Not, And, Or, Arrow, Comma, Semicolon, Stop, YL, SL, OL, HL, YG, SG, OG, HG, Atoms, Rule, True, False}
 use Rattle.signs.specs.Signs.{Kind, mark, name, end}
 use Rattle.signs.proofs.Stretches.{by_cond}
-use Rattle.grammar.specs.declared.fault.GrammarFault.{GrammarFault}
 use Rattle.grammar.specs.declared.fault.GrammarFault.TheVariants as faults
-use Rattle.grammar.specs.Grammar.{prefix_mark, number}
-use Rattle.grammar.specs.Machine.{is_mark, prefix_of, since_of, wrapped, join, Lefts, Bracket, Point, due, unit_read, link_read, conj_read, disj_read, form_read, State, begun, name_due, name_read, rule_due, in_rule, stopped, lefts, no_lefts, choose, closed, ended, after_form, after_disj, after_conj, after_link, after_unit, unit_sign, rule_sign, name_sign, step, steps, is_declared, with_prefixes, open_brackets, name_limit, depth_limit, opens, unit_limit, point_limit, declare_limit, limit}
-use Rattle.grammar.specs.Limits.{rule_begun, names_in, Opening, prefix, bracket, unit_ends, bracket_ends, mark_opens, opened, open_after, limit_at}
+use Rattle.grammar.specs.Machine.{is_mark, wrapped, join, Lefts, Bracket, Point, due, unit_read, link_read, conj_read, disj_read, form_read, State, begun, name_due, name_read, rule_due, in_rule, stopped, lefts, no_lefts, choose, closed, ended, after_form, after_disj, after_conj, after_link, after_unit, unit_sign, rule_sign, name_sign, step, is_declared, with_prefixes, open_brackets, name_limit, opens, unit_limit, limit}
+use Rattle.grammar.specs.Limits.{rule_begun, names_in, Opening, prefix, bracket, unit_ends, bracket_ends, opened, open_after, limit_at}
 use Rattle.grammar.proofs.Sound.{mark_is, AtPoint, Leads}
 
 -- what is open at a point, the newest first

@@ -1,21 +1,20 @@
 -- The machine comes to what is right, and nothing else is right.
-use Rattle.std.proofs.Common.{◌≡◌, ℕ, ◌<◌, ◌≤◌, Bool, true, false, cond, ltb, ◌⊎◌, List, [], ◌∷◌, ◌++◌, length, Some, None, Option, sym, refl, ap, ◌∙◌, subst, inl, inr, append_assoc, append-nil, arith, ltb-false, ltb-true}
-use Rattle.std.proofs.lemmas.Bool.{cases_Bool, cond-true, cond-false, lt-ltb, le-ltb}
+use Rattle.std.proofs.Common.{◌≡◌, ℕ, Bool, true, false, cond, ltb, List, [], ◌∷◌, ◌++◌, length, Some, None, Option, sym, refl, ap, ◌∙◌, subst, append_assoc, append-nil, arith, ltb-false, ltb-true}
+use Rattle.std.proofs.lemmas.Bool.{cond-true, cond-false, lt-ltb, le-ltb}
 use Rattle.lines.specs.Forms.{Form}
-use Rattle.signs.specs.declared.sign.SignFault.TheVariants.{TooLong}
 use Rattle.signs.specs.Signs.{Kind, mark, name, end}
 use Rattle.signs.specs.Walk.{Signs, ends, wrong, sign, signs_of}
 use Rattle.signs.proofs.Stretches.{by_cond}
 use Rattle.grammar.specs.declared.fault.GrammarFault.{GrammarFault}
 use Rattle.grammar.specs.declared.fault.GrammarFault.TheVariants as faults
-use Rattle.grammar.specs.Grammar.{IsPolicy, Begins}
+use Rattle.grammar.specs.Grammar.{Begins}
 use Rattle.grammar.specs.Limits.{rule_begun, names_in, open_after, limit_at, WithinBehind, Within}
-use Rattle.grammar.specs.Machine.{State, begun, name_due, name_read, rule_due, in_rule, stopped, choose, step, steps, is_declared, opens, limit, Outcome, accepted, refused, at_end, run, outcome}
+use Rattle.grammar.specs.Machine.{State, begun, name_due, name_read, rule_due, in_rule, stopped, choose, step, steps, is_declared, opens, limit, Outcome, refused, at_end, run}
 use Rattle.grammar.specs.Reading.{Goes, here, there, Right, is_policy_read, no_sign_reads, end_misfits, sign_misfits, limit_breaks, Reading, too_long, by_signs, ReadsRight, ReadsOnlyRight, OneReading}
 use Rattle.grammar.proofs.Complete.{policy_complete, one_policy}
 use Rattle.grammar.proofs.Fits.{steps_then, steps_from, begins, begins_next, begins_none, begun_leads}
 use Rattle.grammar.proofs.Limits.{Tracks, Tracked, tracked, tracks_none}
-use Rattle.grammar.proofs.Sound.{Leads, steps_lead, policy_sound}
+use Rattle.grammar.proofs.Sound.{steps_lead, policy_sound}
 
 goes_next : {a b : Signs} {s : List Kind} {k : Kind} {f : ℕ} → Goes a s (sign k f b) → Goes a (s ++ (k ∷ [])) b
 goes_next here = there here

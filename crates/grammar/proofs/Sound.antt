@@ -13,7 +13,7 @@ use Rattle.signs.specs.Marks.{mark_number}
 use Rattle.signs.specs.Signs.{Kind, mark, name, end}
 use Rattle.signs.proofs.Stretches.{by_cond}
 use Rattle.grammar.specs.Grammar.{prefix_mark, number, IsUnit, is_name, is_true, is_false, is_prefixed, is_bracketed, IsLink, is_unit, is_since_local, is_since_global, IsConj, is_link, is_and, IsDisj, is_conj, is_or, IsForm, is_disj, is_implies, AreNames, one_name, one_more, IsPolicy, is_policy}
-use Rattle.grammar.specs.Machine.{is_mark, prefix_of, since_of, wrapped, join, Lefts, Bracket, Point, due, unit_read, link_read, conj_read, disj_read, form_read, State, begun, name_due, name_read, rule_due, in_rule, stopped, lefts, no_lefts, choose, closed, ended, after_form, after_disj, after_conj, after_link, after_unit, unit_sign, rule_sign, name_sign, step, steps}
+use Rattle.grammar.specs.Machine.{is_mark, wrapped, join, Lefts, Bracket, Point, due, unit_read, link_read, conj_read, disj_read, form_read, State, begun, name_due, name_read, rule_due, in_rule, stopped, lefts, no_lefts, choose, closed, ended, after_form, after_disj, after_conj, after_link, after_unit, unit_sign, rule_sign, name_sign, step, steps}
 
 -- a mark by its number
 unmarked : ℕ → Mark

@@ -12,7 +12,6 @@ use Rattle.std.specs.List.{prefix_len}
 use Rattle.std.specs.Str.{bytes_eq}
 use Rattle.lines.specs.declared.line.Prefix.{Prefix}
 use Rattle.lines.specs.declared.line.Prefix.TheVariants as single
-use Rattle.lines.specs.declared.line.Infix.{Infix}
 use Rattle.lines.specs.declared.line.Infix.TheVariants as pair
 use Rattle.lines.specs.Forms.{Form, atom, no, yes, prefixed, joined}
 use Rattle.signs.specs.declared.sign.Mark.{Mark}

@@ -1,5 +1,5 @@
 -- The limits of a policy text, by the signs before the one that breaks them. Assumes nothing.
-use Rattle.std.specs.Prelude.{◌≡◌, ℕ, Bool, true, false, cond, ◌||◌, List, [], ◌∷◌, ◌++◌, length, Some, None, Option, nat_lt}
+use Rattle.std.specs.Prelude.{◌≡◌, ℕ, Bool, false, cond, ◌||◌, List, [], ◌∷◌, ◌++◌, length, Some, None, Option, nat_lt}
 use Rattle.signs.specs.declared.sign.Mark.TheVariants.{Open, Close, Rule, True, False}
 use Rattle.signs.specs.Signs.{Kind, mark, name, end}
 use Rattle.grammar.specs.declared.fault.GrammarFault.{GrammarFault}

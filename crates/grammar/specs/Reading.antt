@@ -7,7 +7,7 @@ use Rattle.signs.specs.Signs.{Kind}
 use Rattle.signs.specs.Walk.{Signs, ends, wrong, sign, signs_of}
 use Rattle.grammar.specs.declared.fault.GrammarFault.{GrammarFault}
 use Rattle.grammar.specs.declared.fault.GrammarFault.TheVariants as faults
-use Rattle.grammar.specs.Grammar.{IsForm, IsPolicy, Begins}
+use Rattle.grammar.specs.Grammar.{IsPolicy, Begins}
 use Rattle.grammar.specs.Limits.{limit_at, Within}
 use Rattle.grammar.specs.Machine.{Outcome, accepted, refused, outcome}
 

@@ -1,17 +1,15 @@
 -- The search for a name, and one name more.
-use Rattle.std.proofs.Common.{◌≡◌, ℕ, ◌+◌, ◌<◌, ◌≤◌, Bool, true, false, cond, not, ltb, List, [], ◌∷◌, ◌++◌, map, length, get_or, take, drop, set, Some, None, Option, sym, refl, ap, ◌∙◌, arith}
-use Rattle.std.specs.List.{prefix_len}
+use Rattle.std.proofs.Common.{◌≡◌, ℕ, ◌+◌, ◌<◌, ◌≤◌, Bool, true, false, cond, not, ltb, List, [], ◌∷◌, ◌++◌, map, length, get_or, take, drop, set, Some, None, sym, refl, ap, ◌∙◌, arith}
 use Rattle.std.specs.Str.{bytes_eq}
 use Rattle.std.proofs.lemmas.List.{length-map, get_or-map, get_or-take, length-take-le, take_more_set, map-append}
-use Rattle.std.proofs.lemmas.List.Sums.{prefix_len-drop_yes, prefix_len-drop_no, prefix_len-le-length}
+use Rattle.std.proofs.lemmas.List.Sums.{prefix_len-drop_yes, prefix_len-drop_no}
 use Rattle.std.proofs.lemmas.Bool.{lt-ltb, le-ltb, cond-true, cond-false}
-use Rattle.grammar.specs.declared.fault.GrammarFault.{GrammarFault}
 use Rattle.grammar.specs.declared.fault.GrammarFault.TheVariants.{Repeated, ManyAtoms}
 use Rattle.grammar.specs.Grammar.{number}
 use Rattle.grammar.specs.Machine.{is_declared, name_limit}
 use Rattle.names.specs.declared.span.Span.{Span}
 use Rattle.names.specs.declared.table.Names.{Names}
-use Rattle.names.specs.Names.{span_bytes, names_of, lookup, declared_names}
+use Rattle.names.specs.Names.{span_bytes, names_of, lookup}
 
 abbrev other : List ℕ → List ℕ → Bool
 other w n = not (bytes_eq n w)

@@ -1,8 +1,8 @@
 -- The names of a policy's atoms, by the text that they stand in. Assumes nothing.
-use Rattle.std.specs.Prelude.{◌≡◌, ℕ, ◌-◌, cond, ◌&&◌, List, [], ◌∷◌, ◌++◌, map, length, take, drop, Some, None, Ok, Err, Option, Result, nat_le}
+use Rattle.std.specs.Prelude.{ℕ, ◌-◌, cond, ◌&&◌, List, [], ◌∷◌, ◌++◌, map, length, take, drop, Some, None, Ok, Err, Option, Result, nat_le}
 use Rattle.grammar.specs.declared.fault.GrammarFault.{GrammarFault}
 use Rattle.grammar.specs.Grammar.{number}
-use Rattle.grammar.specs.Machine.{is_declared, name_limit}
+use Rattle.grammar.specs.Machine.{is_declared}
 use Rattle.names.specs.declared.span.Span.{Span}
 use Rattle.names.specs.declared.table.Names.{Names}
 

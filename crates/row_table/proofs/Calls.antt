@@ -1,7 +1,7 @@
 -- What write, append and forget make of a row table's bytes. Assumes nothing.
 use Rattle.std.proofs.Common.{◌≡◌, ℕ, ◌+◌, ◌-◌, ◌*◌, ◌<◌, ◌≤◌, List, [], ◌∷◌, ◌++◌, length, drop, set, replicate, Ok, sym, ap, ◌∙◌, subst, add-zero, arith}
 use lib.Seq.{paste}
-use Rattle.std.specs.List.{AllByRecursion as All}
+use Rattle.std.specs.List.{AllByRecursion}
 use Rattle.std.proofs.ByRecursion.{All-set, All-push}
 use Rattle.std.proofs.lemmas.List.{length-set, length_push}
 use Rattle.stores.specs.Bounds.{raised, from_run}
@@ -76,7 +76,7 @@ module _ (b : Bounds) (bytes : List ℕ) (k : Kept b bytes) where
               ∙ laid_append b.width b.limit (length bytes) some k.inside b.low records rec k.window.0 (omega (arith, k.window)) (wide b bytes k) long;
         }
 
-  drops_first : (ws : List ℕ) (rs : List (List ℕ)) → length rs ≡ b.high + 1 - b.low → All (λ r. length r ≡ b.width) rs → b.low < b.high
+  drops_first : (ws : List ℕ) (rs : List (List ℕ)) → length rs ≡ b.high + 1 - b.low → AllByRecursion (λ r. length r ≡ b.width) rs → b.low < b.high
       → ws ≡ paste (laid b.width b.limit (length bytes) b.low rs) (at b.low) (replicate b.width 0) b.width → Bytes ws
       → Lays (from_run b (b.low + 1)) (length bytes) (drop 1 rs) ws
   drops_first ws [] count wide two is values = absurd (omega arith)

@@ -2,7 +2,7 @@
 use Rattle.std.specs.Prelude.{◌≡◌, ℕ, ◌+◌, ◌-◌, ◌*◌, ◌≤◌, List, [], ◌∷◌, map, length, vec_items, Vec}
 use Rattle.std.proofs.Common.{sym, ap, subst, ◌∙◌, arith}
 use Rattle.std.specs.Vec.{with_items}
-use Rattle.std.specs.List.{range_with_len, AllByRecursion as All}
+use Rattle.std.specs.List.{range_with_len, AllByRecursion}
 use Rattle.std.proofs.lemmas.List.FromFn.{length-map-range_with_len, get_or-map-range_with_len}
 use Rattle.std.proofs.ByRecursion.{All-map, All-weaker}
 use Rattle.std.proofs.lemmas.List.{length-take, length-drop, with_items_is}
@@ -20,7 +20,7 @@ holding b rs = record { width = b.width; limit = b.limit; low = b.low; records =
 abbrev with_high : Bounds → ℕ → Bounds
 with_high b high = record { width = b.width; limit = b.limit; low = b.low; high = high }
 
-all : {X : Type 0} (P : X → Type 0) → ((x : X) → P x) → (xs : List X) → All P xs
+all : {X : Type 0} (P : X → Type 0) → ((x : X) → P x) → (xs : List X) → AllByRecursion P xs
 all P h [] = tt
 all P h (x ∷ xs) = (h x, all P h xs)
 
@@ -32,14 +32,14 @@ module _ (b : Bounds) (bytes : List ℕ) (k : Kept b bytes) where
   bounds_are = let n = count_is in ap (with_high b) (omega (arith, k.window))
 
   -- every slot holds a record
-  pub fit : All (IsRecord b.width) (meaning_of b bytes).records
+  pub fit : AllByRecursion (IsRecord b.width) (meaning_of b bytes).records
   fit =
       All-map (IsRecord b.width) (slot b.width b.limit bytes) _
       (all _ (λ run.
       let f = place_fits b.width b.limit run (omega (arith, k.sizes)) in
       (simp (length-take, length-drop) (omega (arith, k.inside)), bytes_part b.width (place b.width b.limit run) bytes (bytes_from bytes k.values))) _)
 
-  pub wide : All (λ r. length r ≡ b.width) (meaning_of b bytes).records
+  pub wide : AllByRecursion (λ r. length r ≡ b.width) (meaning_of b bytes).records
   wide = All-weaker (IsRecord b.width) (λ r. length r ≡ b.width) (λ r h. h.0) (meaning_of b bytes).records fit
 
   pub record_is : (run : ℕ) → b.low ≤ run → run ≤ b.high → record_at (meaning_of b bytes) run ≡ slot b.width b.limit bytes run
@@ -51,7 +51,7 @@ pub record Lays (b : Bounds) (size : ℕ) (rs : List (List ℕ)) (bytes : List �
   pub window : Window b
   pub inside : b.limit * b.width ≤ size
   pub count : length rs ≡ b.high + 1 - b.low
-  pub wide : All (λ r. length r ≡ b.width) rs
+  pub wide : AllByRecursion (λ r. length r ≡ b.width) rs
   pub values : Bytes bytes
   pub is : bytes ≡ laid b.width b.limit size b.low rs
 

@@ -1,8 +1,8 @@
 -- The bytes that a list of records is laid out as: each slot of them, and what a call makes of them. Assumes nothing.
-use Rattle.std.specs.Prelude.{◌≡◌, ℕ, zero, suc, ◌+◌, ◌-◌, ◌*◌, ◌<◌, ◌≤◌, ◌⊎◌, List, [], ◌∷◌, ◌++◌, map, length, take, drop, replicate, slice_set, refl}
-use Rattle.std.proofs.Common.{sym, ap, ◌∙◌, inl, inr, ⊎_elim, add-zero, arith}
+use Rattle.std.specs.Prelude.{◌≡◌, ℕ, zero, suc, ◌+◌, ◌-◌, ◌*◌, ◌<◌, ◌≤◌, List, [], ◌∷◌, ◌++◌, map, length, take, drop, replicate, slice_set, refl}
+use Rattle.std.proofs.Common.{sym, ap, ◌∙◌, add-zero, arith}
 use Rattle.std.proofs.Math.Seq.{paste}
-use Rattle.std.specs.List.{range_with_len, AllByRecursion as All}
+use Rattle.std.specs.List.{range_with_len, AllByRecursion}
 use Rattle.std.proofs.lemmas.List.Edits.{length-paste}
 use Rattle.std.proofs.lemmas.List.{length-replicate, take-replicate, drop-replicate}
 use Rattle.row_table.specs.Image.{place, slot, laid}
@@ -17,7 +17,7 @@ map_same f g low (suc n) same =
 
 module _ (w L size : ℕ) (some : 1 ≤ L) (inside : L * w ≤ size) where
   abbrev Wide : List (List ℕ) → Type 0
-  Wide rs = All (λ r. length r ≡ w) rs
+  Wide rs = AllByRecursion (λ r. length r ≡ w) rs
 
   pub length_laid : (low : ℕ) (rs : List (List ℕ)) → Wide rs → length (laid w L size low rs) ≡ size
   length_laid low [] wide = length-replicate size 0

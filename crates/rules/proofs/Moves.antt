@@ -1,20 +1,19 @@
 -- How the machine moves through the parts of a rule, in one text with one list of names.
-use Rattle.std.proofs.Common.{◌≡◌, ℕ, suc, ◌<◌, ◌≤◌, Bool, true, false, cond, ltb, List, [], ◌∷◌, length, Some, None, Option, sym, refl, ap, ◌∙◌, arith}
+use Rattle.std.proofs.Common.{◌≡◌, ℕ, suc, ◌<◌, ◌≤◌, Bool, true, false, cond, List, [], ◌∷◌, length, Some, None, Option, sym, refl, ap, ◌∙◌, arith}
 use Rattle.std.proofs.lemmas.Bool.{cond-true, cond-false, lt-ltb, le-ltb}
 use Rattle.lines.specs.declared.line.Prefix.{Prefix}
 use Rattle.lines.specs.declared.line.Infix.{Infix}
 use Rattle.lines.specs.declared.line.Infix.TheVariants as pair
 use Rattle.lines.specs.Forms.{Form, atom, no, yes, prefixed, joined}
 use Rattle.signs.specs.declared.sign.SignFault.{SignFault}
-use Rattle.signs.specs.declared.sign.Mark.{Mark}
 use Rattle.signs.specs.declared.sign.Mark.TheVariants.{Open, Close, And, Or, Arrow, Stop, True, False}
-use Rattle.signs.specs.Signs.{Kind, mark, name, end, Found, found, fault, next_sign}
+use Rattle.signs.specs.Signs.{Kind, mark, name, end, found, fault, next_sign}
 use Rattle.signs.specs.Walk.{Signs, ends, wrong, sign, then_signs, signs_from}
 use Rattle.signs.proofs.Steps.{signs_step}
 use Rattle.grammar.specs.declared.fault.GrammarFault.{GrammarFault}
 use Rattle.grammar.specs.declared.fault.GrammarFault.TheVariants as faults
 use Rattle.grammar.specs.Grammar.{number}
-use Rattle.grammar.specs.Machine.{is_mark, prefix_of, since_of, wrapped, join, Lefts, Bracket, Point, due, unit_read, link_read, conj_read, disj_read, form_read, State, in_rule, lefts, no_lefts, choose, closed, after_form, after_disj, after_conj, after_link, after_unit, unit_sign, rule_sign, is_declared, with_prefixes, open_brackets, depth_limit, opens, unit_limit, point_limit, Outcome, accepted, refused, run}
+use Rattle.grammar.specs.Machine.{is_mark, prefix_of, since_of, wrapped, Lefts, Bracket, Point, due, unit_read, link_read, conj_read, disj_read, form_read, State, in_rule, lefts, no_lefts, choose, after_form, after_disj, after_link, after_unit, unit_sign, rule_sign, is_declared, with_prefixes, open_brackets, depth_limit, unit_limit, point_limit, Outcome, refused, run}
 use Rattle.rules.specs.Parts.{Part, a_unit, a_link, a_conj, a_disj, a_form, Around, due_at, read_at, depth_at, chain_at}
 
 -- what a sign does at a point of the rule

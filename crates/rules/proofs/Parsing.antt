@@ -5,27 +5,24 @@ use Rattle.lines.specs.declared.line.Line.TheVariants as line
 use Rattle.lines.specs.declared.line.Prefix.{Prefix}
 use Rattle.lines.specs.declared.table.Table.{Table}
 use Rattle.lines.specs.declared.line.Infix.{Infix}
-use Rattle.lines.specs.declared.line.Infix.TheVariants as pair
-use Rattle.lines.specs.Forms.{Form, atom, no, yes, prefixed, joined, declared}
+use Rattle.lines.specs.Forms.{Form, atom, prefixed, joined, declared}
 use Rattle.lines.specs.Tables.{leading_lines, closing_lines, middle_lines, ending_lines, leading_count, closing_count, middle_count, ending_count}
 use Rattle.lines.specs.Written.{kept_lines, Adds, Written}
 use Rattle.lines.proofs.Writing.{written_atom, written_prefix, written_infix, prefix_few, infix_few}
 use Rattle.signs.specs.declared.sign.Mark.{Mark}
-use Rattle.signs.specs.declared.sign.Mark.TheVariants.{And, Or}
 use Rattle.signs.specs.declared.sign.SignFault.{SignFault}
 use Rattle.signs.specs.declared.reader.Reader.{Reader}
-use Rattle.signs.specs.Signs.{Kind, mark, name, end, found, fault, next_sign}
+use Rattle.signs.specs.Signs.{Kind, name, end, found, fault, next_sign}
 use Rattle.signs.specs.Stands.{Stands}
 use Rattle.signs.specs.Walk.{signs_from}
 use Rattle.signs.proofs.Law.{onward, signs_stand}
 use Rattle.grammar.specs.declared.fault.GrammarFault.{GrammarFault}
-use Rattle.grammar.specs.declared.fault.GrammarFault.TheVariants as faults
 use Rattle.grammar.specs.Grammar.{number}
-use Rattle.grammar.specs.Machine.{is_declared, is_mark, prefix_of, since_of, in_rule, run, refused}
+use Rattle.grammar.specs.Machine.{is_declared, is_mark, prefix_of, since_of, in_rule, run}
 use Rattle.names.specs.Names.{names_of, lookup}
 use Rattle.rules.specs.declared.parser.Parser.{Parser}
-use Rattle.rules.specs.Parts.{text_of, place_of, declared_in, signs_at, lines_in, count_in, Part, a_unit, a_link, a_conj, a_disj, a_form, Around, due_at, read_at, depth_at, Onward, Room, Done, Fails}
-use Rattle.rules.proofs.Moves.{Next, Bad, Goes, Stops, Grows, Breaks, conj_grows, conj_right_stops, conj_done, disj_grows, disj_right_stops, disj_done, chain_bad, grows_none}
+use Rattle.rules.specs.Parts.{text_of, place_of, declared_in, signs_at, lines_in, count_in, Part, a_unit, a_form, due_at, read_at, Onward, Room, Done, Fails}
+use Rattle.rules.proofs.Moves.{Next, Bad, Goes, Stops, Grows, grows_none}
 
 -- the same text and names
 pub record Same (p q : Parser) : Type 0 where

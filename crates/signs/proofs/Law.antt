@@ -1,19 +1,17 @@
 -- The law of signs: what `next_sign` finds does stand there.
-use Rattle.std.proofs.Common.{◌≡◌, ℕ, zero, suc, ◌+◌, ◌-◌, ◌<◌, ◌≤◌, Bool, true, false, cond, ◌&&◌, ◌||◌, eqb, ltb, leb, ◌⊎◌, List, [], ◌∷◌, length, get_or, take, drop, Some, None, codes, Option, sym, refl, ap, ◌∙◌, subst, inl, inr, add-zero, arith, length-drop, drop-cons, ltb-false, ltb-true}
+use Rattle.std.proofs.Common.{◌≡◌, ℕ, suc, ◌+◌, ◌-◌, ◌<◌, ◌≤◌, Bool, true, false, cond, ◌&&◌, ◌||◌, eqb, ltb, leb, ◌⊎◌, List, [], ◌∷◌, length, get_or, take, drop, Some, None, codes, Option, sym, refl, ap, ◌∙◌, subst, inl, inr, add-zero, arith, drop-cons, ltb-false, ltb-true}
 use native.Mathlib.Nat.{sub_self}
 use Rattle.std.specs.List.{prefix_len}
 use Rattle.std.specs.Str.{bytes_eq}
 use Rattle.std.proofs.lemmas.List.{get_or-drop, get_or-take, get_or_past}
 use Rattle.std.proofs.lemmas.Slice.Eq.{bytes_eq-Decides}
-use Rattle.std.proofs.lemmas.Bool.{cases_Bool, cases_lt, leb-true, leb-false}
+use Rattle.std.proofs.lemmas.Bool.{cases_lt, leb-true, leb-false}
 use Rattle.std.proofs.lemmas.Bool.Decides.{nat_tests, not_from_Decides}
 use Rattle.signs.specs.declared.sign.Mark.{Mark}
 use Rattle.signs.specs.declared.sign.Mark.TheVariants.{Open, Close, Not, And, Or, Arrow, Comma, Semicolon, Stop, YL, SL, OL, HL, YG, SG, OG, HG, Atoms, Rule, True, False}
-use Rattle.signs.specs.declared.sign.SignFault.{SignFault}
-use Rattle.signs.specs.declared.sign.SignFault.TheVariants.{TooLong, NoSign, LongName}
 use Rattle.signs.specs.Marks.{mark_spelling}
-use Rattle.signs.specs.Signs.{is_blank, is_letter, is_name_byte, Kind, mark, name, end, mark_at, word_of, Found, found, fault, found_mark, found_word, found_at, next_sign}
-use Rattle.signs.specs.Stands.{spelling, part, Blanks, Word, Name, Whole, Stands, sign_stands, no_sign, long_name}
+use Rattle.signs.specs.Signs.{is_blank, is_letter, is_name_byte, Kind, mark, name, end, mark_at, word_of, found, found_mark, found_at, next_sign}
+use Rattle.signs.specs.Stands.{spelling, part, Blanks, Word, Whole, Stands, sign_stands, no_sign, long_name}
 use Rattle.signs.proofs.Stretches.{by_cond, Stretch, stretch}
 
 -- a test on numbers, by its two cases

@@ -1,9 +1,9 @@
 -- The signs of a text are the next one and then the signs from behind it on.
-use Rattle.std.proofs.Common.{◌≡◌, ℕ, zero, suc, ◌+◌, ◌-◌, ◌<◌, ◌≤◌, List, length, sym, refl, ap, ◌∙◌, subst, arith}
+use Rattle.std.proofs.Common.{◌≡◌, ℕ, zero, suc, ◌-◌, ◌<◌, ◌≤◌, List, length, refl, ap, arith}
 use Rattle.signs.specs.Signs.{Kind, mark, name, end, Found, found, fault, next_sign}
 use Rattle.signs.specs.Stands.{Stands}
-use Rattle.signs.specs.Walk.{Signs, ends, wrong, sign, then_signs, walk, signs_from}
-use Rattle.signs.proofs.Law.{Onward, onward, signs_stand}
+use Rattle.signs.specs.Walk.{Signs, sign, then_signs, walk, signs_from}
+use Rattle.signs.proofs.Law.{onward, signs_stand}
 
 mark_goes : {m : _} → ◌≡◌ {A = Kind} (mark m) end → ⊥
 mark_goes e = let z : ◌≡◌ {A = ℕ} 0 1 = cc in omega arith

@@ -1,5 +1,5 @@
 -- Which sign stands at a place of a text. Assumes nothing.
-use Rattle.std.specs.Prelude.{◌≡◌, ℕ, ◌+◌, ◌-◌, ◌<◌, ◌≤◌, Bool, true, false, cond, ◌&&◌, ◌||◌, List, [], ◌∷◌, length, drop, Some, None, Ok, Err, codes, Option, Result, ◌==◌, nat_le, nat_lt, slice_index, slice_range}
+use Rattle.std.specs.Prelude.{ℕ, ◌+◌, ◌-◌, Bool, cond, ◌&&◌, ◌||◌, List, length, drop, Some, None, Ok, Err, codes, Option, Result, ◌==◌, nat_le, nat_lt, slice_index, slice_range}
 use Rattle.std.specs.List.{prefix_len}
 use Rattle.std.specs.Str.{bytes_eq}
 use Rattle.refusals.specs.declared.refusal.Refusal.{Refusal}
@@ -11,7 +11,6 @@ use Rattle.signs.specs.declared.sign.Sign.TheVariants as sign
 use Rattle.signs.specs.declared.sign.Placed.{Placed}
 use Rattle.signs.specs.declared.sign.SignFault.{SignFault}
 use Rattle.signs.specs.declared.sign.SignFault.TheVariants.{TooLong, NoSign, LongName}
-use Rattle.signs.specs.Marks.{mark_spelling}
 
 abbrev pub is_blank : ℕ → Bool
 is_blank b = b == 9 || b == 10 || b == 13 || b == 32

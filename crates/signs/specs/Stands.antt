@@ -1,10 +1,8 @@
 -- The law of signs: what it means that a sign, or a fault, stands at a place. It says nothing of how
 -- signs are found: blanks and spellings, put together, are the text, and a word is a longest stretch.
-use Rattle.std.specs.Prelude.{◌≡◌, ℕ, ◌+◌, ◌-◌, ◌<◌, ◌≤◌, true, false, List, [], ◌++◌, length, ◌≢◌, slice_index, slice_range}
+use Rattle.std.specs.Prelude.{◌≡◌, ℕ, ◌+◌, ◌<◌, ◌≤◌, true, false, List, [], length, ◌≢◌, slice_index, slice_range}
 use Rattle.signs.specs.declared.sign.Mark.{Mark}
-use Rattle.signs.specs.declared.sign.Mark.TheVariants.{Atoms, Rule, True, False}
-use Rattle.signs.specs.declared.sign.SignFault.{SignFault}
-use Rattle.signs.specs.declared.sign.SignFault.TheVariants.{TooLong, NoSign, LongName}
+use Rattle.signs.specs.declared.sign.SignFault.TheVariants.{NoSign, LongName}
 use Rattle.signs.specs.Marks.{mark_spelling}
 use Rattle.signs.specs.Signs.{is_blank, is_letter, is_name_byte, Kind, mark, name, end, Found, found, fault}
 

@@ -1,5 +1,5 @@
 -- Lists of calls to a store, what it answers and what it means then: functions of its meaning alone. Assumes nothing.
-use Rattle.std.specs.Prelude.{ℕ, cond, List, [], ◌∷◌, map, length, is_ok, Ok, Err, Result}
+use Rattle.std.specs.Prelude.{ℕ, cond, List, [], ◌∷◌, length, is_ok, Ok, Err, Result}
 use Rattle.stores.specs.declared.fault.StoreFault.{StoreFault}
 use Rattle.store_calls.specs.declared.call.StoreCall.{StoreCall}
 use Rattle.store_calls.specs.declared.call.StoreCall.TheVariants.{Width, Limit, Low, High, Read, Write, Append, Forget}

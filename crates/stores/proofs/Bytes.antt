@@ -1,13 +1,13 @@
 -- Lists of bytes that are cut and laid over one another stay lists of bytes. Assumes nothing.
-use Rattle.std.proofs.Common.{◌≡◌, ℕ, zero, suc, ◌+◌, ◌<◌, true, List, length, get_or, take, drop, replicate, Decides, refl, arith, w8, Fits}
+use Rattle.std.proofs.Common.{◌≡◌, ℕ, zero, suc, ◌+◌, ◌<◌, true, List, get_or, take, drop, replicate, Decides, refl, arith, w8, Fits}
 use lib.Seq.{paste}
-use Rattle.std.specs.List.{AllByRecursion as All}
+use Rattle.std.specs.List.{AllByRecursion}
 use Rattle.std.proofs.ByRecursion.{All-append, All-take, All-drop, All-from_get_or, Decides-by_and}
 use Rattle.std.proofs.lemmas.Bool.Decides.{Decides-ltb}
 use Rattle.stores.specs.Bytes.{are_bytes}
 
 abbrev pub Bytes : List ℕ → Type 0
-Bytes bs = All (λ b. b < 256) bs
+Bytes bs = AllByRecursion (λ b. b < 256) bs
 
 are_bytes_decides : (bs : List ℕ) → Decides (are_bytes bs) (Bytes bs)
 are_bytes_decides = Decides-by_and _ (λ b. b < 256) are_bytes (λ b. Decides-ltb b 256) refl (λ _ _. refl)

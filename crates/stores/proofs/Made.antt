@@ -1,5 +1,5 @@
 -- What is known of a store that can be made. Assumes nothing.
-use Rattle.std.proofs.Common.{◌≡◌, ℕ, ◌+◌, ◌-◌, ◌*◌, ◌/◌, ◌<◌, ◌≤◌, min, true, false, cond, ◌||◌, ltb, Ok, Err, sym, ap, ◌∙◌, subst, ⊎_elim, mul-le-mul_right, div-mul-le_self, arith}
+use Rattle.std.proofs.Common.{◌≡◌, ℕ, ◌+◌, ◌*◌, ◌/◌, ◌≤◌, true, false, ◌||◌, ltb, Ok, Err, sym, ◌∙◌, ⊎_elim, mul-le-mul_right, div-mul-le_self, arith}
 use Rattle.std.proofs.lemmas.Bool.{cases_Bool, or_parts, ltb-false, cond-true, cond-false}
 use Rattle.stores.specs.declared.fault.StoreFault.TheVariants.{Unfit}
 use Rattle.stores.specs.Making.{limit_in, making}

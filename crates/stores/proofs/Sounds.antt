@@ -1,10 +1,10 @@
 -- A store whose numbers are in bounds and whose records have its width is sound. Assumes nothing.
-use Rattle.std.proofs.Common.{◌≡◌, ℕ, length, ap, arith}
-use Rattle.std.specs.List.{AllByRecursion as All}
+use Rattle.std.proofs.Common.{◌≡◌, length, ap, arith}
+use Rattle.std.specs.List.{AllByRecursion}
 use Rattle.stores.specs.Bounds.{bounds_of, Sizes, Window}
 use Rattle.stores.specs.Meaning.{Meaning, IsRecord, Sound}
 
-pub sound_from : (m : Meaning) → Sizes (bounds_of m) → Window (bounds_of m) → All (IsRecord m.width) m.records → Sound m
+pub sound_from : (m : Meaning) → Sizes (bounds_of m) → Window (bounds_of m) → AllByRecursion (IsRecord m.width) m.records → Sound m
 sound_from m sizes window fit =
     record {
       narrowest = sizes.0;

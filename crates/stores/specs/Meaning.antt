@@ -1,6 +1,6 @@
 -- What a row store is: its meaning, and what each call makes of it. Read this first. Assumes nothing.
 use Rattle.std.specs.Prelude.{◌≡◌, ℕ, ◌+◌, ◌-◌, ◌<◌, ◌≤◌, List, [], ◌∷◌, ◌++◌, length, drop, slice_index_or, slice_set}
-use Rattle.std.specs.List.{AllByRecursion as All}
+use Rattle.std.specs.List.{AllByRecursion}
 
 -- what a store holds, as data (its abstract state): the records of the runs from `low` on, one a run
 pub record Meaning : Type 0 where
@@ -34,7 +34,7 @@ forgotten m run = record { width = m.width; limit = m.limit; low = run; records 
 
 -- a record is as many bytes as the store is wide
 abbrev pub IsRecord : ℕ → List ℕ → Type 0
-IsRecord width r = (length r ≡ width) × All (λ b. b < 256) r
+IsRecord width r = (length r ≡ width) × AllByRecursion (λ b. b < 256) r
 
 -- what holds of every store, at any time
 pub record Sound (m : Meaning) : Type 0 where
@@ -45,5 +45,5 @@ pub record Sound (m : Meaning) : Type 0 where
   pub first : 1 ≤ m.low
   pub last : high_of m ≤ 999999
   pub room : length m.records ≤ m.limit
-  pub fit : All (IsRecord m.width) m.records
+  pub fit : AllByRecursion (IsRecord m.width) m.records
   pub start : m.records ≡ [] → m.low ≡ 1

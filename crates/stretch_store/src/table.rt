@@ -21,7 +21,7 @@ pub struct StretchTable {
     ghost window: { Window bounds },
     ghost inside: { bounds.limit * (bounds.width + 8) ≤ length memory.items },
     ghost values: { are_bytes memory.items ≡ true },
-    ghost count: { length (meaning_of bounds used (memory.items)).records ≡ bounds.high + 1 - bounds.low },
-    ghost entries: { used ≡ length (stretches bounds.low (meaning_of bounds used (memory.items)).records) },
+    ghost count: { length (meaning_of bounds used memory.items).records ≡ bounds.high + 1 - bounds.low },
+    ghost entries: { used ≡ length (stretches bounds.low (meaning_of bounds used memory.items).records) },
     ghost layout: { memory.items ≡ image (meaning_of bounds used memory.items) (length memory.items) },
 }

@@ -1,15 +1,15 @@
 -- What making, write, append and forget make of a stretch table's bytes. Assumes nothing.
-use Rattle.std.proofs.Common.{◌≡◌, ℕ, zero, suc, ◌+◌, ◌-◌, ◌*◌, ◌<◌, ◌≤◌, true, false, ◌&&◌, ltb, List, [], ◌∷◌, ◌++◌, length, drop, set, replicate, Ok, sym, refl, ap, ◌∙◌, subst, ⊎_elim, append_assoc, append-nil, mul-le-mul_right, arith, length-append, length-drop}
+use Rattle.std.proofs.Common.{◌≡◌, ℕ, zero, suc, ◌+◌, ◌-◌, ◌*◌, ◌<◌, ◌≤◌, true, false, ◌&&◌, ltb, List, [], ◌∷◌, ◌++◌, length, drop, replicate, Ok, sym, refl, ap, ◌∙◌, subst, ⊎_elim, append_assoc, append-nil, mul-le-mul_right, arith, length-append, length-drop}
 use lib.ListN.{length-replicate}
 use Rattle.std.specs.Str.{bytes_eq}
-use Rattle.std.proofs.lemmas.List.{length-set, length_push, drop-drop, drop_at, drop-append-le, drop-replicate, replicate_more, nil_from_length}
+use Rattle.std.proofs.lemmas.List.{length_push, drop-drop, drop_at, drop-append-le, drop-replicate, replicate_more, nil_from_length}
 use Rattle.std.proofs.lemmas.Bool.{and_cases, ltb-false}
 use Rattle.stores.specs.Bounds.{Sizes, Window, raised, from_run}
 use Rattle.stores.specs.Making.{making}
 use Rattle.stores.specs.declared.bounds.Bounds.{Bounds}
 use Rattle.stores.proofs.Bytes.{Bytes, bytes_zeros}
 use Rattle.stores.proofs.Made.{made}
-use Rattle.stretch_table.specs.Stretches.{Stretch, stretch, records_of, Follow, NotFirst, Differ}
+use Rattle.stretch_table.specs.Stretches.{Stretch, stretch, records_of, Follow, Differ}
 use Rattle.stretch_table.specs.Entries.{stretch_at, Holds, Grouped, meaning_of, Kept}
 use Rattle.stretch_table.proofs.Edits.{reads_at}
 use Rattle.stretch_table.proofs.Finding.{Found}

@@ -1,7 +1,7 @@
 -- Lists of stretches put together and taken apart: their runs, their neighbours, their records. Assumes nothing.
-use Rattle.std.proofs.Common.{◌≡◌, ℕ, suc, ◌+◌, ◌-◌, ◌^◌, ◌<◌, ◌≤◌, true, false, List, [], ◌∷◌, ◌++◌, length, replicate, sym, refl, ap, ◌∙◌, subst, ⊎_elim, append_assoc, arith, length-append}
+use Rattle.std.proofs.Common.{◌≡◌, ℕ, ◌+◌, ◌<◌, ◌≤◌, true, false, List, [], ◌∷◌, ◌++◌, length, replicate, sym, refl, ap, ◌∙◌, subst, ⊎_elim, append_assoc, arith, length-append}
 use lib.ListN.{length-replicate}
-use Rattle.std.specs.List.{AllByRecursion as All}
+use Rattle.std.specs.List.{AllByRecursion}
 use Rattle.std.specs.Str.{bytes_eq}
 use Rattle.std.proofs.lemmas.List.{replicate-append-replicate}
 use Rattle.std.proofs.lemmas.Bool.{cases_Bool, cond-true, cond-false}
@@ -45,13 +45,13 @@ pub entries_few : (n : ℕ) (ss : List Stretch) → Follow n ss → length ss �
 entries_few n [] h = omega arith
 entries_few n (s ∷ ss) h = omega (arith, h.1, entries_few (n + s.count) ss h.2, runs_more s ss)
 
-pub ends : (n : ℕ) (ss : List Stretch) → Follow n ss → All (λ s. s.first + s.count ≤ n + runs ss) ss
+pub ends : (n : ℕ) (ss : List Stretch) → Follow n ss → AllByRecursion (λ s. s.first + s.count ≤ n + runs ss) ss
 ends n [] h = tt
 ends n (s ∷ ss) h =
     let all = runs_more s ss in
     (omega (arith, h.0), weaken (n + s.count + runs ss) (n + runs (s ∷ ss)) ss (omega arith) (ends (n + s.count) ss h.2))
   where
-    weaken : (a b : ℕ) (ss : List Stretch) → a ≤ b → All (λ s. s.first + s.count ≤ a) ss → All (λ s. s.first + s.count ≤ b) ss
+    weaken : (a b : ℕ) (ss : List Stretch) → a ≤ b → AllByRecursion (λ s. s.first + s.count ≤ a) ss → AllByRecursion (λ s. s.first + s.count ≤ b) ss
     weaken a b [] le h = tt
     weaken a b (s ∷ ss) le h = (omega (arith, h.0), weaken a b ss le h.1)
 

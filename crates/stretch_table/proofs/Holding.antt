@@ -1,25 +1,22 @@
 -- Entries in memory: how they are read, and what a write to one, a shift and a new one make of them. Assumes nothing.
-use Rattle.std.proofs.Common.{◌≡◌, ℕ, suc, ◌+◌, ◌-◌, ◌*◌, ◌/◌, ◌%◌, ◌^◌, ◌<◌, ◌≤◌, List, [], ◌∷◌, ◌++◌, map, length, get_or, take, drop, replicate, sym, refl, ap, ◌∙◌, subst, append_assoc, append-nil, mod-eq_of_lt, suc-mul, add-mul, arith, length-append}
+use Rattle.std.proofs.Common.{◌≡◌, ℕ, ◌+◌, ◌-◌, ◌*◌, ◌/◌, ◌%◌, ◌^◌, ◌<◌, List, [], ◌∷◌, ◌++◌, length, replicate, sym, refl, ap, ◌∙◌, append_assoc, mod-eq_of_lt, suc-mul, arith, length-append}
 use native.Mathlib.Nat.{div-div-eq-div-mul, div-add-mod}
 use lib.ListN.{length-replicate}
-use lib.Seq.{paste}
-use Rattle.std.specs.List.{flat_map, AllByRecursion as All}
+use Rattle.std.specs.List.{flat_map, AllByRecursion}
 use Rattle.std.proofs.ByRecursion.{All-append}
-use Rattle.std.proofs.lemmas.List.{get_or-append-add, take_at, drop_at}
-use Rattle.stretch_table.specs.Stretches.{Stretch, stretch}
-use Rattle.stretch_table.specs.Image.{four, entry, filled}
-use Rattle.stretch_table.specs.Entries.{number_at, stretch_at, Sized, Holds}
-use Rattle.stretch_table.proofs.Pastes.{paste_part, part_of, zeros}
+use Rattle.stretch_table.specs.Stretches.{Stretch}
+use Rattle.stretch_table.specs.Image.{entry}
+use Rattle.stretch_table.specs.Entries.{Sized, Holds}
 
 pub joined_append : (A B : List Stretch) → flat_map entry (A ++ B) ≡ flat_map entry A ++ flat_map entry B
 joined_append [] B = refl
 joined_append (s ∷ A) B = ap (λ l. entry s ++ l) (joined_append A B) ∙ sym (append_assoc (entry s) (flat_map entry A) (flat_map entry B))
 
-all_left : {X : Type 0} (P : X → Type 0) (xs ys : List X) → All P (xs ++ ys) → All P xs
+all_left : {X : Type 0} (P : X → Type 0) (xs ys : List X) → AllByRecursion P (xs ++ ys) → AllByRecursion P xs
 all_left P [] ys h = tt
 all_left P (x ∷ xs) ys h = (h.0, all_left P xs ys h.1)
 
-all_right : {X : Type 0} (P : X → Type 0) (xs ys : List X) → All P (xs ++ ys) → All P ys
+all_right : {X : Type 0} (P : X → Type 0) (xs ys : List X) → AllByRecursion P (xs ++ ys) → AllByRecursion P ys
 all_right P [] ys h = h
 all_right P (x ∷ xs) ys h = all_right P xs ys h.1
 
@@ -38,13 +35,13 @@ module _ (w : ℕ) where
   pub length_entry : (s : Stretch) → Sized w s → length (entry s) ≡ w + 8
   length_entry s h = omega (arith, h.wide)
 
-  pub length_entries : (ss : List Stretch) → All (Sized w) ss → length (flat_map entry ss) ≡ length ss * (w + 8)
+  pub length_entries : (ss : List Stretch) → AllByRecursion (Sized w) ss → length (flat_map entry ss) ≡ length ss * (w + 8)
   length_entries [] h = omega arith
   length_entries (s ∷ ss) h =
       omega (arith, length-append (entry s) (flat_map entry ss), length_entry s h.0, length_entries ss h.1, suc-mul (length ss) (w + 8))
 
   -- any number of zeros may follow
-  pub holds_from : (ss : List Stretch) (m : List ℕ) (z : ℕ) → All (Sized w) ss → m ≡ flat_map entry ss ++ replicate z 0 → Holds w ss m
+  pub holds_from : (ss : List Stretch) (m : List ℕ) (z : ℕ) → AllByRecursion (Sized w) ss → m ≡ flat_map entry ss ++ replicate z 0 → Holds w ss m
   holds_from ss m z sized is =
       let long : length m ≡ length (flat_map entry ss) + z = ap length is ∙ length-append (flat_map entry ss) (replicate z 0) ∙ ap (λ n. length (flat_map entry ss) + n) (length-replicate {A = ℕ} z 0) in
       let rest : z ≡ length m - length (flat_map entry ss) = omega arith in
@@ -56,9 +53,9 @@ module _ (w : ℕ) where
 
 -- memory by its parts: the entries of A, of O and of B, and zeros
 pub record Parts (w : ℕ) (A O B : List Stretch) (m : List ℕ) : Type 0 where
-  pub sized_front : All (Sized w) A
-  pub sized_mid : All (Sized w) O
-  pub sized_back : All (Sized w) B
+  pub sized_front : AllByRecursion (Sized w) A
+  pub sized_mid : AllByRecursion (Sized w) O
+  pub sized_back : AllByRecursion (Sized w) B
   pub left : ℕ
   pub is : m ≡ flat_map entry A ++ (flat_map entry O ++ (flat_map entry B ++ replicate left 0))
 

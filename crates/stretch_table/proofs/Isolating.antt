@@ -1,6 +1,5 @@
 -- The run that is written, cut out of the stretch that has it. Assumes nothing.
-use Rattle.std.proofs.Common.{◌≡◌, ℕ, suc, ◌+◌, ◌-◌, ◌*◌, ◌<◌, ◌≤◌, Bool, true, false, cond, List, [], ◌∷◌, ◌++◌, length, sym, refl, ap, ◌∙◌, subst, ⊎_elim, arith, length-append}
-use Rattle.std.proofs.lemmas.List.{length_push}
+use Rattle.std.proofs.Common.{◌≡◌, ℕ, ◌+◌, ◌-◌, ◌*◌, ◌<◌, ◌≤◌, Bool, true, false, cond, List, ◌∷◌, ◌++◌, length, sym, ap, ◌∙◌, subst, ⊎_elim, arith, length-append}
 use Rattle.std.proofs.lemmas.Bool.{cases_Bool, cond-true, cond-false}
 use Rattle.std.proofs.lemmas.Bool.Decides.{nat_tests}
 use Rattle.stores.specs.declared.bounds.Bounds.{Bounds}
@@ -9,7 +8,7 @@ use Rattle.stretch_table.specs.Entries.{stretch_at, Holds, meaning_of, Kept, Iso
 use Rattle.stretch_table.proofs.Edits.{reads_at}
 use Rattle.stretch_table.proofs.Finding.{Found, total, more_room}
 use Rattle.stretch_table.proofs.Grouping.{runs}
-use Rattle.stretch_table.proofs.Keeping.{held, lies}
+use Rattle.stretch_table.proofs.Keeping.{lies}
 use Rattle.stretch_table.proofs.Writing.{Cut, cut_before, Lone, cut_behind}
 
 -- what `cut` promises of a list

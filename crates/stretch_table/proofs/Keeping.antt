@@ -1,6 +1,6 @@
 -- What is known of a stretch table's bytes, and when bytes are those of a stretch table. Assumes nothing.
-use Rattle.std.proofs.Common.{◌≡◌, ℕ, zero, suc, ◌+◌, ◌-◌, ◌*◌, ◌<◌, ◌≤◌, List, [], ◌∷◌, ◌++◌, map, length, take, drop, replicate, sym, refl, ap, ◌∙◌, subst, mul-le-mul_right, arith}
-use Rattle.std.specs.List.{range_with_len, AllByRecursion as All}
+use Rattle.std.proofs.Common.{◌≡◌, ℕ, zero, suc, ◌+◌, ◌-◌, ◌*◌, ◌<◌, ◌≤◌, List, [], ◌∷◌, ◌++◌, length, replicate, sym, ap, ◌∙◌, subst, mul-le-mul_right, arith}
+use Rattle.std.specs.List.{range_with_len, AllByRecursion}
 use Rattle.std.proofs.ByRecursion.{All-append, All-map, All-weaker}
 use Rattle.std.proofs.lemmas.List.{length-take, length-drop}
 use Rattle.stores.specs.Bounds.{Sizes, Window, bounds_of}
@@ -8,10 +8,10 @@ use Rattle.stores.specs.Meaning.{Meaning, IsRecord}
 use Rattle.stores.specs.declared.bounds.Bounds.{Bounds}
 use Rattle.stores.proofs.Bytes.{Bytes, bytes_from, from_bytes, bytes_part}
 use Rattle.stretch_table.specs.Stretches.{Stretch, stretches, records_of, Follow, Differ}
-use Rattle.stretch_table.specs.Image.{filled, image}
+use Rattle.stretch_table.specs.Image.{filled}
 use Rattle.stretch_table.specs.Entries.{stretch_at, stretches_in, Sized, Holds, meaning_of, Kept}
 use Rattle.stretch_table.proofs.Edits.{reads_all}
-use Rattle.stretch_table.proofs.Grouping.{runs, entries_few, ends}
+use Rattle.stretch_table.proofs.Grouping.{entries_few, ends}
 use Rattle.stretch_table.proofs.Places.{within}
 use Rattle.stretch_table.proofs.Stretches.{stand, alone}
 
@@ -22,28 +22,28 @@ abbrev with_high : Bounds → ℕ → Bounds
 with_high b high = record { width = b.width; limit = b.limit; low = b.low; high = high }
 
 module _ {X : Type 0} (P : X → Type 0) where
-  all_replicate : (n : ℕ) (x : X) → P x → All P (replicate n x)
+  all_replicate : (n : ℕ) (x : X) → P x → AllByRecursion P (replicate n x)
   all_replicate zero x h = tt
   all_replicate (suc n) x h = (h, all_replicate n x h)
 
-  replicate_all : (n : ℕ) (x : X) (ys : List X) → 0 < n → All P (replicate n x ++ ys) → P x
+  replicate_all : (n : ℕ) (x : X) (ys : List X) → 0 < n → AllByRecursion P (replicate n x ++ ys) → P x
   replicate_all zero x ys some h = absurd (omega arith)
   replicate_all (suc n) x ys some h = h.0
 
-  rest_all : (n : ℕ) (x : X) (ys : List X) → All P (replicate n x ++ ys) → All P ys
+  rest_all : (n : ℕ) (x : X) (ys : List X) → AllByRecursion P (replicate n x ++ ys) → AllByRecursion P ys
   rest_all zero x ys h = h
   rest_all (suc n) x ys h = rest_all n x ys h.1
 
-all_counting : (P : ℕ → Type 0) (a n : ℕ) → ((i : ℕ) → i < a + n → P i) → All P (range_with_len a n)
+all_counting : (P : ℕ → Type 0) (a n : ℕ) → ((i : ℕ) → i < a + n → P i) → AllByRecursion P (range_with_len a n)
 all_counting P a zero h = tt
 all_counting P a (suc n) h = (h a (omega arith), all_counting P (a + 1) n (λ i lt. h i (omega arith)))
 
 -- what holds of the record of each stretch, and of each record
-all_records : (P : List ℕ → Type 0) (ss : List Stretch) → All (λ s. P s.kept) ss → All P (records_of ss)
+all_records : (P : List ℕ → Type 0) (ss : List Stretch) → AllByRecursion (λ s. P s.kept) ss → AllByRecursion P (records_of ss)
 all_records P [] h = tt
 all_records P (s ∷ ss) h = All-append P (replicate s.count s.kept) (records_of ss) (all_replicate P s.count s.kept h.0) (all_records P ss h.1)
 
-all_kept : (P : List ℕ → Type 0) (n : ℕ) (ss : List Stretch) → Follow n ss → All P (records_of ss) → All (λ s. P s.kept) ss
+all_kept : (P : List ℕ → Type 0) (n : ℕ) (ss : List Stretch) → Follow n ss → AllByRecursion P (records_of ss) → AllByRecursion (λ s. P s.kept) ss
 all_kept P n [] f h = tt
 all_kept P n (s ∷ ss) f h = (replicate_all P s.count s.kept (records_of ss) f.1 h, all_kept P (n + s.count) ss f.2 (rest_all P s.count s.kept (records_of ss) h))
 
@@ -101,7 +101,7 @@ module _ (b : Bounds) (used : ℕ) (m : List ℕ) (k : Kept b used m) where
       omega (arith, k.inside)
 
   -- every entry has a record
-  pub fit : All (IsRecord b.width) rs
+  pub fit : AllByRecursion (IsRecord b.width) rs
   fit =
       all_records (IsRecord b.width) (stretches_in b.width used m)
       (All-map (λ s. IsRecord b.width s.kept) (stretch_at b.width m) (range_with_len 0 used)
@@ -110,13 +110,13 @@ module _ (b : Bounds) (used : ℕ) (m : List ℕ) (k : Kept b used m) where
       let f = within i used (b.width + 8) (length m) (omega arith) room in
       (simp (length-take, length-drop) (omega arith), bytes_part b.width (i * (b.width + 8) + 8) m (bytes_from m k.values)))))
 
-  sized : All (Sized b.width) held
+  sized : AllByRecursion (Sized b.width) held
   sized =
       let total = ap length grouped.2 ∙ k.count in
-      let wide = all_kept (λ r. length r ≡ b.width) b.low held grouped.0 (subst (All (λ r. length r ≡ b.width)) (sym grouped.2) (All-weaker (IsRecord b.width) (λ r. length r ≡ b.width) (λ r h. h.0) rs fit)) in
+      let wide = all_kept (λ r. length r ≡ b.width) b.low held grouped.0 (subst (AllByRecursion (λ r. length r ≡ b.width)) (sym grouped.2) (All-weaker (IsRecord b.width) (λ r. length r ≡ b.width) (λ r h. h.0) rs fit)) in
       both held wide (ends b.low held grouped.0) (omega (arith, k.window))
     where
-      both : (ss : List Stretch) {n : ℕ} → All (λ s. length s.kept ≡ b.width) ss → All (λ s. s.first + s.count ≤ n) ss → n ≤ 1000000 → All (Sized b.width) ss
+      both : (ss : List Stretch) {n : ℕ} → AllByRecursion (λ s. length s.kept ≡ b.width) ss → AllByRecursion (λ s. s.first + s.count ≤ n) ss → n ≤ 1000000 → AllByRecursion (Sized b.width) ss
       both [] w e le = tt
       both (s ∷ ss) w e le = (record { first = omega (arith, e.0); count = omega (arith, e.0); wide = w.0 }, both ss w.1 e.1 le)
 

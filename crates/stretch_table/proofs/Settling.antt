@@ -1,10 +1,10 @@
 -- The record of a run that has an entry of its own replaced, and that entry joined with its neighbours. Assumes nothing.
-use Rattle.std.proofs.Common.{◌≡◌, ℕ, ◌+◌, ◌-◌, ◌<◌, ◌≤◌, List, [], ◌∷◌, ◌++◌, length, set, sym, refl, ap, ◌∙◌, subst, append_assoc, arith, length-append}
+use Rattle.std.proofs.Common.{◌≡◌, ℕ, ◌-◌, ◌<◌, ◌≤◌, List, [], ◌∷◌, ◌++◌, length, set, sym, ap, ◌∙◌, subst, append_assoc, arith, length-append}
 use Rattle.std.proofs.lemmas.List.{length_push, length-set, nil_from_length}
 use Rattle.stores.specs.declared.bounds.Bounds.{Bounds}
 use Rattle.stretch_table.specs.Stretches.{Stretch, stretch, records_of, fused, Few, Follow, Differ}
 use Rattle.stretch_table.specs.Entries.{Holds, Isolated, Grouped}
-use Rattle.stretch_table.proofs.Grouping.{runs, runs_append, few_from, fused_differ, fused_at, differ_fused, Ends, ending}
+use Rattle.stretch_table.proofs.Grouping.{runs, runs_append, few_from, fused_differ, fused_at, differ_fused, ending}
 use Rattle.stretch_table.proofs.Writing.{set_one}
 
 -- what `set_record` and `join` promise of a list

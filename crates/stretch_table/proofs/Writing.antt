@@ -1,10 +1,10 @@
 -- A run's record replaced among stretches: cut around the run, set, joined again. Assumes nothing.
-use Rattle.std.proofs.Common.{◌≡◌, ℕ, suc, ◌+◌, ◌-◌, ◌<◌, ◌≤◌, true, false, cond, ◌&&◌, ltb, List, [], ◌∷◌, ◌++◌, length, set, replicate, sym, refl, ap, ◌∙◌, subst, ⊎_elim, append_assoc, arith}
+use Rattle.std.proofs.Common.{◌≡◌, ℕ, ◌+◌, ◌-◌, ◌<◌, ◌≤◌, true, false, cond, List, [], ◌∷◌, ◌++◌, length, set, replicate, sym, refl, ap, ◌∙◌, subst, ⊎_elim, append_assoc, arith}
 use Rattle.std.proofs.lemmas.List.{length_push, replicate-append-replicate, set_at}
 use Rattle.std.proofs.lemmas.Bool.{cases_Bool, cond-true, cond-false}
 use Rattle.std.proofs.lemmas.Bool.Decides.{nat_tests}
 use Rattle.stretch_table.specs.Stretches.{Stretch, stretch, records_of, inside, pieces, Follow, Differ}
-use Rattle.stretch_table.proofs.Grouping.{runs, records_append, runs_more, runs_append, follow_append, follow_front, follow_back, differ_front, differ_back, differ_append, differ_head, differ_last}
+use Rattle.stretch_table.proofs.Grouping.{runs, records_append, follow_append, follow_front, follow_back, differ_front, differ_back, differ_head, differ_last}
 
 inside_yes : (e : Stretch) (run : ℕ) → inside e run ≡ true → (e.first < run) × (run - e.first < e.count)
 inside_yes e run h = (grind (arith, nat_tests), grind (arith, nat_tests))

@@ -1,6 +1,6 @@
 -- The entries that lie in memory, and what a stretch table means by them. Assumes nothing.
 use Rattle.std.specs.Prelude.{◌≡◌, ℕ, ◌+◌, ◌-◌, ◌*◌, ◌^◌, ◌<◌, ◌≤◌, true, List, ◌∷◌, ◌++◌, map, length, take, drop, slice_index}
-use Rattle.std.specs.List.{range_with_len, AllByRecursion as All}
+use Rattle.std.specs.List.{range_with_len, AllByRecursion}
 use Rattle.stores.specs.Bounds.{Sizes, Window}
 use Rattle.stores.specs.Bytes.{are_bytes}
 use Rattle.stores.specs.Meaning.{Meaning}
@@ -28,7 +28,7 @@ pub record Sized (width : ℕ) (s : Stretch) : Type 0 where
 
 -- the memory m holds the stretches ss, and then zeros
 pub record Holds (width : ℕ) (ss : List Stretch) (m : List ℕ) : Type 0 where
-  pub sized : All (Sized width) ss
+  pub sized : AllByRecursion (Sized width) ss
   pub fits : length ss * (width + 8) ≤ length m
   pub is : m ≡ filled ss (length m)
 

@@ -1,7 +1,7 @@
-use Rattle.std.proofs.Common.{◌≡◌, ℕ, Bool, ◌&&◌, List, map, get_or, take, sym, refl, ap, ◌∙◌, subst}
+use Rattle.std.proofs.Common.{◌&&◌, map, get_or, sym, refl, ap, ◌∙◌, subst}
 use Rattle.std.proofs.lemmas.List.{take_all, map_more}
 use Rattle.store_calls.specs.declared.call.StoreCall.TheVariants.{Width}
-use Rattle.store_calls.specs.Calls.{Asked, Setting, asked, setting}
+use Rattle.store_calls.specs.Calls.{Setting, asked, setting}
 use Rattle.store_calls.proofs.Calls.{Performed, performed_more, performed_alike}
 use Rattle.store_calls.proofs.performing.agree.Goals as goal
 

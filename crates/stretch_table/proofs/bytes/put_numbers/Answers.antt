@@ -8,7 +8,7 @@ pub returns : goal.returns
 returns c =
     record {
       after =
-          c.put-number-2.ensures.after
-          ∙ ap (λ l. paste l (c.args.at + 4) (four c.args.second) 4) c.put-number.ensures.after
+          c.put_number-2.ensures.after
+          ∙ ap (λ l. paste l (c.args.at + 4) (four c.args.second) 4) c.put_number.ensures.after
           ∙ paste-paste c.args.m.now c.args.at (four c.args.first) (four c.args.second) 4 4 refl refl (omega arith);
     }

@@ -1,4 +1,4 @@
-use Rattle.std.proofs.Common.{◌≡◌, ◌+◌, ◌-◌, ◌++◌, length, take, drop, replicate, sym, refl, ap, ◌∙◌, arith, length-drop}
+use Rattle.std.proofs.Common.{◌≡◌, ◌+◌, ◌-◌, ◌++◌, length, take, drop, replicate, sym, ap, ◌∙◌, arith, length-drop}
 use lib.ListN.{length-replicate}
 use lib.Seq.{paste}
 use Rattle.std.proofs.lemmas.List.Edits.{length-between}
@@ -14,16 +14,16 @@ returns c =
     let end = c.args.end in
     let n = end - from in
     let k = from - to in
-    let ys = c.copy-within.new.self in
+    let ys = c.copy_within.new.self in
     let order = c.requires.order in
     let room = c.requires.room in
-    let behind : length (take (end - (to + n)) (drop (to + n) ys)) ≡ k = length-between ys (to + n) end (omega (arith, c.copy-within.ensures.len)) ∙ omega (arith, order) in
+    let behind : length (take (end - (to + n)) (drop (to + n) ys)) ≡ k = length-between ys (to + n) end (omega (arith, c.copy_within.ensures.len)) ∙ omega (arith, order) in
     let cleared : c.fill.new.self ≡ replicate k 0 = c.fill.ensures.after (λ y e. e) ∙ ap (λ i. replicate i 0) behind in
     let all : n + k ≡ end - to = omega (arith, order) in
     record {
       after =
           put_mid-paste (to + n) (end - (to + n)) ys c.fill.new.self (replicate k 0) k cleared (omega (arith, order)) (sym (length-replicate k 0))
-          ∙ ap (λ l. paste l (to + n) (replicate k 0) k) c.copy-within.ensures.after
+          ∙ ap (λ l. paste l (to + n) (replicate k 0) k) c.copy_within.ensures.after
           ∙ paste_then m (drop from m) (replicate k 0) to n k (omega (arith, length-drop from m)) (omega (arith, order)) (length-replicate k 0)
           ∙ ap (λ i. paste m to (take n (drop from m) ++ replicate k 0) i) all;
     }

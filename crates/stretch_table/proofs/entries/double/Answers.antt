@@ -2,8 +2,8 @@ use Rattle.std.proofs.Common.{◌+◌, ◌*◌, ◌≤◌, sym, ap, mul-le-mul_r
 use Rattle.stretch_table.proofs.Edits.{doubles}
 use Rattle.stretch_table.proofs.entries.double.Goals as goal
 
-pub shift-up-requires : goal.shift-up-requires
-shift-up-requires c =
+pub shift_up-requires : goal.shift_up-requires
+shift_up-requires c =
     let size = c.args.width + 8 in
     let order : c.args.i * size ≤ c.args.used * size = mul-le-mul_right size (omega (arith, c.requires.within)) in
     record { order = order; room = c.requires.room }
@@ -13,5 +13,5 @@ returns c =
     let size = c.args.width + 8 in
     record {
       after = λ A B e h place all.
-          doubles A B e h (c.args.i * size) (ap (λ k. k * size) (sym place)) (c.args.used * size) c.shift-up.new.m (ap (λ k. k * size) (sym all)) c.requires.room c.shift-up.ensures.after;
+          doubles A B e h (c.args.i * size) (ap (λ k. k * size) (sym place)) (c.args.used * size) c.shift_up.new.m (ap (λ k. k * size) (sym all)) c.requires.room c.shift_up.ensures.after;
     }

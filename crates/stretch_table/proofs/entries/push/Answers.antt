@@ -1,4 +1,4 @@
-use Rattle.std.proofs.Common.{◌≡◌, ◌+◌, ◌*◌, ◌++◌, length, sym, refl, ap, ◌∙◌, append_assoc, arith}
+use Rattle.std.proofs.Common.{◌≡◌, ◌+◌, ◌*◌, ◌++◌, length, sym, refl, ap, ◌∙◌, arith}
 use lib.Seq.{paste}
 use Rattle.std.proofs.lemmas.List.Edits.{paste-paste}
 use Rattle.stretch_table.specs.Stretches.{stretch}
@@ -16,7 +16,7 @@ returns c =
     let all : 8 + length rec ≡ w + 8 = omega (arith, c.requires.long) in
     let written : c.put.new.m ≡ paste m at (entry (stretch c.args.run 1 rec)) (w + 8) =
     c.put.ensures.after
-    ∙ ap (λ l. paste l (at + 8) rec (length rec)) c.put-numbers.ensures.after
+    ∙ ap (λ l. paste l (at + 8) rec (length rec)) c.put_numbers.ensures.after
     ∙ paste-paste m at head rec 8 (length rec) refl refl (omega (arith, c.requires.room))
     ∙ ap (paste m at (head ++ rec)) all
     in

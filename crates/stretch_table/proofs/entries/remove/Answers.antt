@@ -1,9 +1,9 @@
-use Rattle.std.proofs.Common.{◌+◌, ◌*◌, ◌≤◌, sym, ap, mul-le-mul_right, arith}
+use Rattle.std.proofs.Common.{◌+◌, ◌*◌, sym, ap, mul-le-mul_right}
 use Rattle.stretch_table.proofs.Edits.{removes}
 use Rattle.stretch_table.proofs.entries.remove.Goals as goal
 
-pub shift-down-requires : goal.shift-down-requires
-shift-down-requires c =
+pub shift_down-requires : goal.shift_down-requires
+shift_down-requires c =
     let size = c.args.width + 8 in
     record { order = (mul-le-mul_right size c.requires.within.0, mul-le-mul_right size c.requires.within.1); room = c.requires.room }
 
@@ -12,6 +12,6 @@ returns c =
     let size = c.args.width + 8 in
     record {
       after = λ A O B h from to all.
-          removes A O B h (c.args.from * size) (c.args.to * size) (c.args.used * size) c.shift-down.new.m
-          (ap (λ k. k * size) (sym from)) (ap (λ k. k * size) (sym to)) (ap (λ k. k * size) (sym all)) c.shift-down.ensures.after;
+          removes A O B h (c.args.from * size) (c.args.to * size) (c.args.used * size) c.shift_down.new.m
+          (ap (λ k. k * size) (sym from)) (ap (λ k. k * size) (sym to)) (ap (λ k. k * size) (sym all)) c.shift_down.ensures.after;
     }

@@ -6,5 +6,5 @@ pub returns : goal.returns
 returns c =
     record {
       after = λ A B e h place.
-          sets_count A B e h (c.args.i * (c.args.width + 8)) (ap (λ k. k * (c.args.width + 8)) (sym place)) c.args.count c.put-number.new.m (omega arith) c.put-number.ensures.after;
+          sets_count A B e h (c.args.i * (c.args.width + 8)) (ap (λ k. k * (c.args.width + 8)) (sym place)) c.args.count c.put_number.new.m (omega arith) c.put_number.ensures.after;
     }

@@ -1,4 +1,4 @@
-use Rattle.std.proofs.Common.{◌≡◌, ℕ, [], vec_items, vec_len, sym, refl, ap, ◌∙◌}
+use Rattle.std.proofs.Common.{ℕ, [], vec_items, vec_len, ap, ◌∙◌}
 use Rattle.stores.specs.Meaning.{Meaning}
 use Rattle.stretch_table.proofs.Calls.{clears}
 use Rattle.stretch_table.proofs.Keeping.{kept_again, means_again}

@@ -13,8 +13,8 @@ find-i-requires c =
       first = first_entry c.args.b c.args.used c.args.m.now k c.args.run c.requires.held.0 c.requires.held.1;
     }
 
-pub record-at-requires : goal.record-at-requires
-record-at-requires c =
+pub record_at-requires : goal.record_at-requires
+record_at-requires c =
     within c.find-i.result c.args.used (c.args.b.width + 8) (length c.args.m.now) c.find-i.ensures.within (room c.args.b c.args.used c.args.m.now c.requires.kept)
 
 pub returns : goal.returns
@@ -25,6 +25,6 @@ returns c =
     let f = found b c.args.used m c.requires.kept c.args.run c.requires.held.0 c.requires.held.1 c.find-i.result e.within e.from e.to in
     record {
       after =
-          c.copy-from-slice.ensures.after ∙ c.record_at.ensures.value
+          c.copy_from_slice.ensures.after ∙ c.record_at.ensures.value
           ∙ sym (found_record b c.args.used m c.requires.kept c.args.run c.requires.held.0 c.requires.held.1 c.find-i.result f);
     }

@@ -1,7 +1,5 @@
-use Rattle.std.proofs.Common.{◌≡◌, ◌+◌, ◌-◌, ◌<◌, ◌≤◌, length, sym, ap, ◌∙◌, subst, arith}
+use Rattle.std.proofs.Common.{◌+◌, length, arith}
 use Rattle.stores.proofs.Bytes.{bytes_read}
-use Rattle.stretch_table.specs.Stretches.{Stretch}
-use Rattle.stretch_table.specs.Entries.{stretch_at}
 use Rattle.stretch_table.proofs.Calls.{kept_grouped, means_grouped, lowered_window, lowered_count, drops}
 use Rattle.stretch_table.proofs.Finding.{some_entry, first_entry, found, found_ends}
 use Rattle.stretch_table.proofs.Keeping.{room}
@@ -20,23 +18,23 @@ find-i-requires c =
       first = first_entry b c.args.used m k c.args.run held.0 held.1;
     }
 
-pub first-at-requires : goal.first-at-requires
-first-at-requires c =
+pub first_at-requires : goal.first_at-requires
+first_at-requires c =
     within c.find-i.result c.args.used (c.args.b.width + 8) (length c.args.m.now) c.find-i.ensures.within (room c.args.b c.args.used c.args.m.now c.requires.kept)
 
-pub count-at-count-requires : goal.count-at-count-requires
-count-at-count-requires c =
+pub count_at-count-requires : goal.count_at-count-requires
+count_at-count-requires c =
     within c.find-i.result c.args.used (c.args.b.width + 8) (length c.args.m.now) c.find-i.ensures.within (room c.args.b c.args.used c.args.m.now c.requires.kept)
 
-pub overflow-sub-count : goal.overflow-sub-count
-overflow-sub-count c =
+pub overflow_sub-count : goal.overflow_sub-count
+overflow_sub-count c =
     let held = c.requires.held in
     let e = c.find-i.ensures in
     let f = found c.args.b c.args.used c.args.m.now c.requires.kept c.args.run held.0 held.1 c.find-i.result e.within e.from e.to in
-    omega (arith, found_ends f, c.first-at.ensures.value, c.count-at-count.ensures.value)
+    omega (arith, found_ends f, c.first_at.ensures.value, c.count_at-count.ensures.value)
 
-pub set-runs-requires : goal.set-runs-requires
-set-runs-requires c =
+pub set_runs-requires : goal.set_runs-requires
+set_runs-requires c =
     within c.find-i.result c.args.used (c.args.b.width + 8) (length c.args.m.now) c.find-i.ensures.within (room c.args.b c.args.used c.args.m.now c.requires.kept)
 
 pub remove-requires : goal.remove-requires
@@ -53,10 +51,10 @@ returns c =
     let run = c.args.run in
     let e = c.find-i.ensures in
     let f = found b c.args.used m k run held.0 held.1 c.find-i.result e.within e.from e.to in
-    let g = drops b c.args.used m k run held.0 held.1 c.find-i.result c.first-at.result c.count-at-count.result c.set-runs.new.m c.remove.new.m f c.first-at.ensures.value c.count-at-count.ensures.value c.set-runs.ensures.after c.remove.ensures.after in
+    let g = drops b c.args.used m k run held.0 held.1 c.find-i.result c.first_at.result c.count_at-count.result c.set_runs.new.m c.remove.new.m f c.first_at.ensures.value c.count_at-count.ensures.value c.set_runs.ensures.after c.remove.ensures.after in
     let window = lowered_window b c.args.used m k run held.0 held.1 in
     let count = lowered_count b c.args.used m k run held.0 held.1 in
-    let values = bytes_read c.remove.new.m c.type-inv.m in
+    let values = bytes_read c.remove.new.m c.type_inv.m in
     record {
       kept = kept_grouped g k.sizes window (omega (arith, k.inside)) values count;
       after = means_grouped g k.sizes window (omega (arith, k.inside)) values count;

@@ -1,5 +1,5 @@
 use Rattle.std.proofs.Common.{◌≡◌, length, arith}
-use Rattle.stretch_table.proofs.Finding.{Found, some_entry, first_entry, found}
+use Rattle.stretch_table.proofs.Finding.{some_entry, first_entry, found}
 use Rattle.stretch_table.proofs.Isolating.{room_below, within₁, room₁, room_above, within₂, room₂, isolated}
 use Rattle.stretch_table.proofs.Keeping.{room}
 use Rattle.stretch_table.proofs.runs.isolate.Goals as goal

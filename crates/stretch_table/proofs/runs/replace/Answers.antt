@@ -14,7 +14,7 @@ returns c =
     let run = c.args.run in
     let g = c.settle.ensures.after rs run (few_records b c.args.used m k) c.isolate-at.ensures.after in
     let count = length-set rs (run - b.low) c.args.rec.now ∙ k.count in
-    let values = bytes_read c.settle.new.m c.type-inv.m in
+    let values = bytes_read c.settle.new.m c.type_inv.m in
     record {
       kept = kept_grouped g k.sizes k.window (omega (arith, k.inside)) values count;
       after = means_grouped g k.sizes k.window (omega (arith, k.inside)) values count;

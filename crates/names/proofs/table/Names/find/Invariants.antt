@@ -1,6 +1,5 @@
 -- No name before the place that the loop has come to is the word.
-use Rattle.std.proofs.Common.{◌≡◌, ◌+◌, ◌≤◌, not, drop}
-use Rattle.std.specs.List.{prefix_len}
+use Rattle.std.proofs.Common.{◌≡◌, ◌+◌, drop}
 use Rattle.grammar.specs.Grammar.{number}
 use Rattle.names.specs.Names.{names_of}
 use Rattle.names.proofs.table.Names.find.Given as goal

@@ -13,7 +13,7 @@ loop-self-preserved c =
     let t = c.args.self.now in
     let low = c.loop-self.self.bounds.low in
     let v = c.loop-self.invariant in
-    let e = c.drop-oldest.ensures in
+    let e = c.drop_oldest.ensures in
     let up = ap (λ (b : Bounds). b.low) e.bounds in (
       ap (λ (b : Bounds). b.high) e.bounds ∙ v.0,
       omega arith,

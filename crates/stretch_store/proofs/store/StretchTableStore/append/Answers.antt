@@ -6,18 +6,18 @@ use Rattle.stretch_store.specs.Table.{means}
 use Rattle.stretch_store.specs.Tables.{kept_after, means_after, length_after}
 use Rattle.stretch_store.proofs.store.StretchTableStore.append.Goals as goal
 
-pub returns-in-err-check-append : goal.returns-in-err-check-append
-returns-in-err-check-append c =
-    let p = err_from_is_err_and c.from-residual.result c.from-residual.ensures.1 in
-    rw (p.1, p.2) record { value = c.in-err-check-append.ensures.value (means c.args.self.now) c.bounds-b.ensures.means c.bounds-b.ensures.first; after = refl; same = refl }
+pub returns-in_err-check_append : goal.returns-in_err-check_append
+returns-in_err-check_append c =
+    let p = err_from_is_err_and c.from_residual.result c.from_residual.ensures.1 in
+    rw (p.1, p.2) record { value = c.in_err-check_append.ensures.value (means c.args.self.now) c.bounds-b.ensures.means c.bounds-b.ensures.first; after = refl; same = refl }
 
-pub invariant-of-self : goal.invariant-of-self
-invariant-of-self c =
+pub invariant_of-self : goal.invariant_of-self
+invariant_of-self c =
     let t = c.args.self.now in
     let ws = c.add-self.new.m in
     let long : length ws ≡ length (vec_items t.memory) = omega arith in
     let k = kept_after t ws long c.add-self.result raised c.bounds-b.result c.bounds-b.ensures.value c.add-self.ensures.kept in
-    (k.sizes, (k.window, (k.inside, (k.values, (k.count, (k.used_is, (k.layout, tt)))))))
+    record { sizes = k.sizes; window = k.window; inside = k.inside; values = k.values; count = k.count; entries = k.used_is; layout = k.layout }
 
 pub returns : goal.returns
 returns c =
@@ -27,7 +27,7 @@ returns c =
     let u = c.add-self.result in
     let b = c.bounds-b in
     record {
-      value = sym c.in-ok-check-append.was ∙ c.check-append.ensures.value (means t) b.ensures.means b.ensures.first;
-      after = means_after t ws long u raised b.result b.ensures.value (λ m. appended m c.args.rec.now) c.deref-mut.result.now c.deref-mut.ensures.value c.add-self.ensures.after;
+      value = sym c.in_ok-check_append.was ∙ c.check_append.ensures.value (means t) b.ensures.means b.ensures.first;
+      after = means_after t ws long u raised b.result b.ensures.value (λ m. appended m c.args.rec.now) c.deref_mut.result.now c.deref_mut.ensures.value c.add-self.ensures.after;
       same = length_after t ws long u raised b.result b.ensures.value;
     }

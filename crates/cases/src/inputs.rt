@@ -1,0 +1,15 @@
+//! Cases of the program: an input, and the answers to it.
+use crate::hex::decode;
+use console::{Room, respond};
+use std::alloc::Global;
+use std::io::{BufWriter, Write};
+
+/// Runs a case: the input in hexadecimal.
+pub fn run<W: Write + Drop>(out: &mut BufWriter<W>, heap: Global, hex: &str) -> anyhow::Result<()> {
+    let input = decode(heap, hex)?;
+    let room = Room::new(heap)?;
+    for answer in respond(room, input.as_slice()) {
+        writeln!(out, "{answer}")?;
+    }
+    Ok(())
+}
