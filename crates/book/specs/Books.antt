@@ -1,16 +1,14 @@
 -- What a book's calls promise, for a policy and the meaning of its store. The definitions are those of `meaning`; here they
 -- take a policy in the place of its lines and atoms. Assumes nothing.
-use Rattle.std.specs.Prelude.{◌≡◌, ℕ, ◌+◌, ◌*◌, List, [], map, length, Some, None, Option, Result}
+use Rattle.std.specs.Prelude.{ℕ, List, Option, Result}
 use Rattle.scales.specs.Algebra.{Algebra}
 use Rattle.lines.specs.declared.policy.Policy.{Policy}
 use Rattle.lines.specs.Policies.{lines_of}
 use Rattle.logic.specs.History.{History}
 use Rattle.stores.specs.Meaning.{Meaning}
 use Rattle.meaning.specs.declared.answer.Answer.{Answer}
-use Rattle.meaning.specs.declared.call.Call.{Call}
 use Rattle.meaning.specs.declared.fault.BookFault.{BookFault}
 use Rattle.meaning.specs.Kept.{Represents, meaning}
-use Rattle.meaning.specs.Reaching.{Reach, StoreReach}
 use Rattle.meaning.specs.Refusals as refusal
 use Rattle.meaning.specs.Calls as call
 use Rattle.meaning.specs.Calls.{Asked, asked}

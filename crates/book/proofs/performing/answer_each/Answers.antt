@@ -1,4 +1,4 @@
-use Rattle.std.proofs.Common.{◌≡◌, [], ◌++◌, map, get_or, vec_items, sym, refl, ap, ◌∙◌, arith}
+use Rattle.std.proofs.Common.{[], ◌++◌, map, get_or, vec_items, sym, ap, ◌∙◌, arith}
 use Rattle.std.proofs.lemmas.List.{append-nil, at_drop_all}
 use Rattle.lines.specs.Policies.{lines_of}
 use Rattle.meaning.specs.Kept.{meaning}
@@ -22,7 +22,7 @@ loop-call-preserved g c =
     let calls = c.args.calls.now in
     let i = c.loop-call.call-index in
     let x = asked (get_or calls i none_there) in
-    let pushed = c.push-reserved.ensures in
+    let pushed = c.push_reserved.ensures in
     let len = pushed.len in
     let was = v.0 in (
       omega arith,
@@ -33,7 +33,7 @@ loop-call-preserved g c =
       λ h keeps.
           let w = v.5 h keeps in
           let q = performed S p L c.loop-call.book.policy (g.S.Store.meaning c.loop-call.book.store) (g.S.Store.meaning c.answer-a.new.self.store) w.0 x c.answer-a.result v.2 w.1 one.value one.after in
-          let more = answered_more S p L calls i none_there (vec_items c.loop-call.out) (vec_items c.push-reserved.new.self) _ c.answer-a.result w.0 _ c.loop-call-test.true q.0 pushed.items w.2 w.3 in
+          let more = answered_more S p L calls i none_there (vec_items c.loop-call.out) (vec_items c.push_reserved.new.self) _ c.answer-a.result w.0 _ c.loop-call-test.true q.0 pushed.items w.2 w.3 in
           (next S (lines_of p) p.atoms L w.0 x, q.1, more.0, more.1),
     )
 

@@ -1,4 +1,4 @@
-use Rattle.std.proofs.Common.{◌≡◌, ◌+◌, ◌≤◌, ◌++◌, map, length, drop, vec_items, vec_len, vec_capacity}
+use Rattle.std.proofs.Common.{◌≡◌, ◌+◌, ◌++◌, map, drop, vec_items, vec_len, vec_capacity}
 use Rattle.lines.specs.Policies.{lines_of}
 use Rattle.logic.specs.History.{History}
 use Rattle.meaning.specs.Kept.{meaning}

@@ -7,12 +7,12 @@ use Rattle.clearness.proofs.Clearness.{clearer_answered}
 use Rattle.book.specs.Books.{opening_refusal, answers}
 use Rattle.book.proofs.performing.perform.Goals as goal
 
-pub returns-in-Ok-with-capacity : goal.returns-in-Ok-with-capacity
-returns-in-Ok-with-capacity g c =
+pub returns-in-Ok-with_capacity : goal.returns-in-Ok-with_capacity
+returns-in-Ok-with_capacity g c =
     let S = g.K.Scale.algebra in
     let p = c.args.policy in
     let m = g.S.Store.meaning c.args.store in
-    let v : (opening_refusal p m ≡ None) × (vec_items c.answer-each.new.out ≡ answers S p m [] (map asked c.args.calls.now)) = search rules in
+    let v : (opening_refusal p m ≡ None) × (vec_items c.answer_each.new.out ≡ answers S p m [] (map asked c.args.calls.now)) = search rules in
     record {
       value = v;
       after = search rules;

@@ -8,5 +8,5 @@ pub returns-in-Ok : goal.returns-in-Ok
 returns-in-Ok g c =
     let m = g.S.Store.meaning c.args.store in
     let p = c.args.policy in
-    let free : opening_refusal p m ≡ None = none_from_unless (opening_refusal p m) tt _ c.in-default.ensures.value in
+    let free : opening_refusal p m ≡ None = none_from_unless (opening_refusal p m) tt _ c.in_default.ensures.value in
     record { value = (free, refl, refl, refl, represents_none g.K.Scale.algebra (lines_of p) p.atoms m (g.met.S.Store.sound c.args.store) free) }
