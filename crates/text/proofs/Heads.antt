@@ -1,17 +1,15 @@
 -- How the machine moves outside the rule: through the names, over `rule`, and over the full stop to the end.
-use Rattle.std.proofs.Common.{◌≡◌, ℕ, ◌-◌, ◌<◌, ◌≤◌, Bool, true, false, cond, ◌&&◌, leb, List, [], ◌∷◌, ◌++◌, length, take, drop, Some, None, Option, sym, refl, ap, ◌∙◌, subst, arith}
-use Rattle.std.proofs.lemmas.Bool.{cond-true, cond-false, le-leb}
+use Rattle.std.proofs.Common.{◌≡◌, ℕ, ◌&&◌, leb, List, [], length, Some, None, sym, refl, ap, ◌∙◌}
+use Rattle.std.proofs.lemmas.Bool.{cond-true, le-leb}
 use Rattle.lines.specs.Forms.{Form}
 use Rattle.signs.specs.declared.sign.SignFault.{SignFault}
-use Rattle.signs.specs.declared.sign.Mark.TheVariants.{Comma, Semicolon, Stop, Atoms, Rule}
-use Rattle.signs.specs.Signs.{Kind, mark, name, end, Found, found, fault, next_sign}
-use Rattle.signs.specs.Stands.{part, Stands, sign_stands}
-use Rattle.signs.specs.Walk.{Signs, ends, wrong, sign, then_signs, signs_from}
+use Rattle.signs.specs.Signs.{Kind, mark, name, end, found}
+use Rattle.signs.specs.Stands.{Stands, sign_stands}
+use Rattle.signs.specs.Walk.{then_signs, signs_from}
 use Rattle.signs.proofs.Steps.{signs_step}
 use Rattle.grammar.specs.declared.fault.GrammarFault.{GrammarFault}
 use Rattle.grammar.specs.declared.fault.GrammarFault.TheVariants as faults
-use Rattle.grammar.specs.Machine.{is_mark, State, begun, name_due, name_read, rule_due, in_rule, stopped, due, form_read, no_lefts, choose, after_form, name_sign, step, name_limit, limit, Outcome, accepted, refused, at_end, run}
-use Rattle.names.specs.declared.span.Span.{Span}
+use Rattle.grammar.specs.Machine.{State, begun, name_due, name_read, rule_due, in_rule, form_read, choose, name_sign, step, limit, refused, at_end, run}
 use Rattle.names.specs.Names.{span_bytes}
 use Rattle.rules.proofs.Moves.{Next, Bad}
 

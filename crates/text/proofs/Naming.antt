@@ -1,25 +1,23 @@
 -- The names of a policy, one after the other.
-use Rattle.std.proofs.Common.{◌≡◌, ℕ, ◌+◌, ◌-◌, ◌<◌, ◌≤◌, true, false, List, [], ◌∷◌, ◌++◌, length, Some, None, Ok, Err, Option, Result, sym, refl, ap, ◌∙◌, subst, arith}
+use Rattle.std.proofs.Common.{◌≡◌, ℕ, ◌-◌, ◌<◌, ◌≤◌, true, false, List, [], ◌∷◌, ◌++◌, length, Some, None, Ok, Err, Option, sym, refl, ap, ◌∙◌, subst, arith}
 use Rattle.std.proofs.lemmas.List.{length-append}
 use Rattle.std.proofs.lemmas.Bool.{cond-true, cond-false}
 use Rattle.signs.specs.declared.reader.Reader.{Reader}
 use Rattle.signs.specs.declared.sign.SignFault.{SignFault}
 use Rattle.signs.specs.declared.sign.Mark.TheVariants.{Comma, Semicolon}
-use Rattle.signs.specs.Signs.{Kind, mark, name, end, found, fault, next_sign}
+use Rattle.signs.specs.Signs.{Kind, name, found, fault, next_sign}
 use Rattle.signs.specs.Stands.{Stands}
 use Rattle.signs.specs.Walk.{signs_from}
 use Rattle.grammar.specs.declared.fault.GrammarFault.{GrammarFault}
 use Rattle.grammar.specs.declared.fault.GrammarFault.TheVariants as faults
 use Rattle.grammar.specs.Machine.{is_mark, name_due, name_read, rule_due, name_limit, run, refused}
-use Rattle.grammar.proofs.Sound.{mark_is}
-use Rattle.names.specs.declared.span.Span.{Span}
 use Rattle.names.specs.declared.table.Names.{Names}
 use Rattle.names.specs.Names.{span_bytes, names_of, declared_answer, declared_names}
 use Rattle.names.proofs.Lookup.{length_names}
 use Rattle.rules.specs.declared.parser.Parser.{Parser}
 use Rattle.rules.specs.Parts.{text_of, place_of, declared_in, signs_at}
-use Rattle.rules.proofs.Moves.{Next, Bad, next_as}
-use Rattle.rules.proofs.Parsing.{ahead, next_of, bad_of, name_goes, mark_goes}
+use Rattle.rules.proofs.Moves.{Next, next_as}
+use Rattle.rules.proofs.Parsing.{ahead, next_of, name_goes, mark_goes}
 use Rattle.text.specs.Heads.{Named, Unnamed}
 use Rattle.text.proofs.Heads.{head_name_due, head_name_read, head_bad, head_leads, head_over, head_misfits, name_bytes}
 

@@ -1,31 +1,27 @@
 -- What is read is what the text means, and is right.
-use Rattle.std.proofs.Common.{◌≡◌, ℕ, zero, suc, ◌+◌, ◌<◌, ◌≤◌, Bool, true, false, cond, ◌&&◌, ltb, List, [], ◌∷◌, ◌++◌, length, take, Ok, Err, Result, sym, refl, ap, ◌∙◌, subst, arith}
+use Rattle.std.proofs.Common.{◌≡◌, ℕ, zero, suc, ◌<◌, ◌≤◌, true, ◌&&◌, List, [], ◌∷◌, length, take, Ok, Err, sym, refl, ap, ◌∙◌, subst, arith}
 use Rattle.std.proofs.lemmas.Bool.{cond-true, cond-false, lt-ltb, le-ltb}
-use Rattle.lines.specs.declared.fault.LineFault.{LineFault}
 use Rattle.lines.specs.declared.fault.LineFault.TheVariants.{ManyLines}
 use Rattle.lines.specs.declared.line.Line.{Line}
 use Rattle.lines.specs.declared.policy.Policy.{Policy}
-use Rattle.lines.specs.Forms.{Form, declared}
-use Rattle.lines.specs.Policies.{lines_of, Makes}
-use Rattle.lines.specs.Stands.{fits, well_formed}
-use Rattle.lines.specs.Tables.{before_last, lines, table}
+use Rattle.lines.specs.Forms.{declared}
+use Rattle.lines.specs.Policies.{lines_of}
+use Rattle.lines.specs.Stands.{well_formed}
+use Rattle.lines.specs.Tables.{lines, table}
 use Rattle.lines.specs.Written.{kept_lines}
 use Rattle.lines.proofs.Formed.{and_left, and_right, formed_lines}
 use Rattle.lines.proofs.Writing.{length_lines, written_fits}
 use Rattle.grammar.specs.declared.fault.GrammarFault.{GrammarFault}
-use Rattle.grammar.specs.Machine.{accepted, refused, outcome}
+use Rattle.grammar.specs.Machine.{accepted, outcome}
 use Rattle.grammar.specs.Reading.{Reading as Comes_to}
 use Rattle.grammar.proofs.Right.{reads_right}
-use Rattle.names.specs.declared.table.Names.{Names}
 use Rattle.names.specs.Names.{names_of}
 use Rattle.names.proofs.Lookup.{length_names}
 use Rattle.rules.specs.declared.parser.Parser.{Parser}
-use Rattle.rules.specs.Parts.{text_of, declared_in, count_in, lines_in}
-use Rattle.text.specs.declared.fault.TextFault.{TextFault}
+use Rattle.rules.specs.Parts.{text_of, count_in, lines_in}
 use Rattle.text.specs.declared.fault.TextFault.TheVariants.{Grammar, Lines}
-use Rattle.text.specs.declared.reading.Reading.{Reading}
 use Rattle.text.specs.Heads.{Accepts, Refuses}
-use Rattle.text.specs.Texts.{Text, policy, no_policy, with_lines, meant, told, Right}
+use Rattle.text.specs.Texts.{policy, no_policy, with_lines, meant, Right}
 
 formed_take : (n k m : ℕ) (ls : List Line) → well_formed n k ls ≡ true → well_formed n k (take m ls) ≡ true
 formed_take n k zero ls w = refl

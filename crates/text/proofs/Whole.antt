@@ -1,27 +1,26 @@
 -- The whole of a text: from its first byte to its end.
-use Rattle.std.proofs.Common.{◌≡◌, ℕ, ◌+◌, ◌*◌, ◌<◌, ◌≤◌, Bool, true, false, cond, ltb, List, [], ◌∷◌, ◌++◌, map, length, take, Some, None, Ok, Err, Option, Result, sym, refl, ap, ◌∙◌, subst, arith, ltb-false}
-use Rattle.std.proofs.lemmas.Bool.{cond-true, cond-false, lt-ltb, le-ltb}
+use Rattle.std.proofs.Common.{◌≡◌, ℕ, ◌≤◌, Bool, true, false, cond, ltb, List, [], map, length, take, Some, None, Ok, Err, Result, sym, refl, ap, ◌∙◌, subst, arith, ltb-false}
+use Rattle.std.proofs.lemmas.Bool.{cond-false}
 use Rattle.lines.specs.declared.line.Line.{Line}
 use Rattle.lines.specs.Forms.{Form, declared}
 use Rattle.lines.specs.Written.{kept_lines, Written}
-use Rattle.signs.specs.declared.sign.Mark.{Mark}
 use Rattle.signs.specs.declared.sign.Mark.TheVariants.{Close, Stop, Atoms, Rule}
 use Rattle.signs.specs.declared.sign.Sign.{Sign}
 use Rattle.signs.specs.declared.sign.Sign.TheVariants as sign
 use Rattle.signs.specs.declared.sign.SignFault.{SignFault}
 use Rattle.signs.specs.declared.sign.SignFault.TheVariants.{TooLong}
-use Rattle.signs.specs.Signs.{Kind, kind_of, mark, name, end, found, fault, next_sign, length_answer}
+use Rattle.signs.specs.Signs.{Kind, kind_of, mark, name, end, found, length_answer}
 use Rattle.signs.specs.Walk.{Signs, then_signs, signs_from}
 use Rattle.signs.proofs.Steps.{signs_step}
 use Rattle.grammar.specs.declared.fault.GrammarFault.{GrammarFault}
 use Rattle.grammar.specs.declared.fault.GrammarFault.TheVariants as faults
-use Rattle.grammar.specs.Machine.{is_mark, State, begun, name_due, rule_due, in_rule, stopped, due, form_read, no_lefts, choose, after_form, ended, step, limit, Outcome, accepted, refused, run, outcome}
+use Rattle.grammar.specs.Machine.{is_mark, State, begun, name_due, rule_due, in_rule, stopped, due, form_read, no_lefts, after_form, ended, step, limit, Outcome, accepted, refused, run, outcome}
 use Rattle.names.specs.Names.{span_bytes, names_of}
 use Rattle.rules.specs.declared.parser.Parser.{Parser}
-use Rattle.rules.specs.Parts.{text_of, place_of, declared_in, signs_at, lines_in, count_in, a_form, Room, Done, Fails}
-use Rattle.rules.proofs.Moves.{Next, Bad}
+use Rattle.rules.specs.Parts.{text_of, place_of, declared_in, signs_at, lines_in, count_in, a_form, Done, Fails}
+use Rattle.rules.proofs.Moves.{Next}
 use Rattle.text.specs.Heads.{Over, Missing, unread, other, Named, Unnamed, Fresh, Accepts, Refuses}
-use Rattle.text.proofs.Heads.{Head, head_begun, head_name_due, head_rule_due, head_form_read, head_bad, head_leads, head_misfits}
+use Rattle.text.proofs.Heads.{Head, head_begun, head_rule_due, head_form_read, head_bad, head_leads, head_misfits}
 
 pub over_next : {p q : Parser} {k : Kind} → (o : Over p q k) → Next (text_of p) (place_of p) k o.from (place_of q)
 over_next {p} o = record { within = p.reader.within; is = o.is }

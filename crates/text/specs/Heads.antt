@@ -1,5 +1,5 @@
 -- What it means that a mark, the names of a policy or the whole of it were read. Assumes nothing.
-use Rattle.std.specs.Prelude.{◌≡◌, ℕ, ◌≤◌, true, false, List, [], length, Ok, Err, Result, ◌≢◌}
+use Rattle.std.specs.Prelude.{◌≡◌, ℕ, ◌≤◌, true, false, [], length, Ok, Err, Result, ◌≢◌}
 use Rattle.lines.specs.Forms.{Form, declared}
 use Rattle.lines.specs.Written.{Written}
 use Rattle.signs.specs.declared.sign.Mark.{Mark}
