@@ -1,4 +1,4 @@
-/* Reading a policy text from C. Link target/staticlib/libtext.a, which `rt staticlib text` writes. */
+/* Reading a policy text from C. Link target/staticlib/libtext.a, which examples/c/run writes. */
 #ifndef POLICY_H
 #define POLICY_H
 

@@ -13,7 +13,7 @@ impl<'a> Parser<'a> {
     /// form = disj [ "->" disj ]
     ///
     /// Says the number of the form's last line, as do the others.
-    #[cycle(conj_disj_form_link_unit)]
+    #[cycle(parts)]
     pub fn form(&mut self, depth: u8) -> Result<u16, GrammarFault>
         requires deep { depth ≤ 32 }
         requires room { Room self.old }
@@ -33,7 +33,7 @@ impl<'a> Parser<'a> {
     }
 
     /// disj = conj { "|" conj }
-    #[cycle(conj_disj_form_link_unit)]
+    #[cycle(parts)]
     fn disj(&mut self, depth: u8) -> Result<u16, GrammarFault>
         requires deep { depth ≤ 32 }
         requires room { Room self.old }
@@ -54,7 +54,7 @@ impl<'a> Parser<'a> {
     }
 
     /// conj = link { "&" link }
-    #[cycle(conj_disj_form_link_unit)]
+    #[cycle(parts)]
     fn conj(&mut self, depth: u8) -> Result<u16, GrammarFault>
         requires deep { depth ≤ 32 }
         requires room { Room self.old }
@@ -75,7 +75,7 @@ impl<'a> Parser<'a> {
     }
 
     /// link = unit [ ("SL" or "SG") unit ]
-    #[cycle(conj_disj_form_link_unit)]
+    #[cycle(parts)]
     fn link(&mut self, depth: u8) -> Result<u16, GrammarFault>
         requires deep { depth ≤ 32 }
         requires room { Room self.old }
@@ -95,7 +95,7 @@ impl<'a> Parser<'a> {
     }
 
     /// unit = prefix unit, or "(" form ")", or "true", "false", name
-    #[cycle(conj_disj_form_link_unit)]
+    #[cycle(parts)]
     fn unit(&mut self, depth: u8) -> Result<u16, GrammarFault>
         requires deep { depth ≤ 32 }
         requires room { Room self.old }

@@ -2,8 +2,8 @@
 //! string there is one answer.
 //!
 //! `read` equates its answer with what the text means, and states the law of texts (specs/Texts.antt): accepted exactly
-//! when the grammar and the limits read it, refused at the first thing that is wrong. `policy_refusal` is the call for a
-//! program in C. Rests on `signs`, `lines`, `grammar`, `names` and `rules`.
+//! when the grammar and the limits read it, refused at the first thing that is wrong. `policy_refusal` is the call that
+//! `text_c` offers to a program in C. Rests on `signs`, `lines`, `grammar`, `names` and `rules`.
 #![tactic(auto)]
 
 ghost use Rattle.std.specs.Prelude.{◌≡◌};
@@ -135,9 +135,8 @@ fn grammar_refusal(fault: GrammarFault) -> Refusal
     }
 }
 
-/// For a program in C: 0 if the text is a policy, else the number of its refusal.
-#[unsafe(no_mangle)]
-pub extern "C" fn policy_refusal(text: &[u8]) -> u8
+/// What a program in C is told (the crate `text_c`): 0 if the text is a policy, else the number of its refusal.
+pub fn policy_refusal(text: &[u8]) -> u8
     ensures { result ≡ number_of (meant text.now) }
 {
     match read(text) {

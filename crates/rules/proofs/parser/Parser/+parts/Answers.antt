@@ -11,7 +11,7 @@ use Rattle.rules.proofs.Moves.{link_since, link_single, link_stops, link_bad, li
 use Rattle.rules.proofs.Parsing.{same_on, same_onto, same_then, plain_goes, plain_stops, fails, next_in, bad_in, ahead, mark_goes, since_goes, prefix_goes, moved, infix_step, done_infix, done_as, right_fails, along_more, done_chain, chain_fails, chain_right_fails, next_of, bad_of, room_moved, room_on, onto, falls, few_lines, inner_fails, inner_stops, inner_goes, prefix_step, done_prefix, done_line, done_bracket, stepped, same_stepped, name_goes, found_atom, done_atom}
 use Rattle.names.specs.Names.{names_of, lookup}
 use Rattle.grammar.proofs.Sound.{mark_is}
-use Rattle.rules.proofs.parser.Parser.+conj_disj_form_link_unit.Goals as goal
+use Rattle.rules.proofs.parser.Parser.+parts.Goals as goal
 
 pub conj-returns-in_err-left : goal.conj-returns-in_err-left
 conj-returns-in_err-left t c =

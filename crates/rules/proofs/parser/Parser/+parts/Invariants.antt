@@ -2,7 +2,7 @@
 use Rattle.std.proofs.Common.{◌+◌, ◌-◌, ◌*◌, length}
 use Rattle.rules.specs.Parts.{text_of, place_of, a_conj, a_disj}
 use Rattle.rules.proofs.Parsing.{Along}
-use Rattle.rules.proofs.parser.Parser.+conj_disj_form_link_unit.Given as goal
+use Rattle.rules.proofs.parser.Parser.+parts.Given as goal
 
 abbrev pub decreases-conj : goal.decreases-conj
 decreases-conj l = 8 * (length (text_of l.self.now) - place_of l.self.now) + 2
