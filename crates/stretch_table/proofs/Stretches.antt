@@ -1,5 +1,5 @@
 -- The stretches of a list of records are the one way to group them. Assumes nothing.
-use Rattle.std.proofs.Common.{◌≡◌, ℕ, zero, suc, ◌+◌, ◌-◌, true, false, List, [], ◌∷◌, ◌++◌, replicate, sym, refl, ap, ◌∙◌, subst, ⊎_elim, add-one, arith}
+use Rattle.std.proofs.Common.{◌≡◌, ℕ, zero, suc, ◌+◌, ◌-◌, true, false, cond, List, [], ◌∷◌, ◌++◌, replicate, sym, refl, ap, ◌∙◌, subst, ⊎_elim, add-one, arith}
 use Rattle.std.specs.Str.{bytes_eq}
 use Rattle.std.proofs.lemmas.Slice.Eq.{bytes_eq-Decides}
 use Rattle.std.proofs.lemmas.Bool.{cases_Bool, cond-true, cond-false}
@@ -18,34 +18,33 @@ differ_from r s f = not_from_Decides (bytes_eq r s) (bytes_eq-Decides r s) f
 pub same_not : (r s : List ℕ) → (r ≡ s → ⊥) → bytes_eq r s ≡ false
 same_not r s ne = ⊎_elim (λ (t : bytes_eq r s ≡ true). absurd (ne (equal_from r s t))) (λ (f : bytes_eq r s ≡ false). f) (cases_Bool (bytes_eq r s))
 
--- what holds of one way or the other of `below` holds of it
-below_both : (P : List Stretch → Type 0) (run : ℕ) (r : List ℕ) (s : Stretch) (ss : List Stretch)
-    → (r ≡ s.kept → P (stretch run (s.count + 1) r ∷ ss)) → ((r ≡ s.kept → ⊥) → P (stretch run 1 r ∷ s ∷ ss)) → P (below run r (s ∷ ss))
-below_both P run r s ss yes' no' =
+-- what holds of one side or the other holds of the side that the comparison takes
+one_or_other : (P : List Stretch → Type 0) (r k : List ℕ) (x y : List Stretch) → (r ≡ k → P x) → ((r ≡ k → ⊥) → P y) → P (cond (bytes_eq r k) x y)
+one_or_other P r k x y yes' no' =
     ⊎_elim
-    (λ (t : bytes_eq r s.kept ≡ true). subst P (sym (cond-true _ _ _ t)) (yes' (equal_from r s.kept t)))
-    (λ (f : bytes_eq r s.kept ≡ false). subst P (sym (cond-false _ _ _ f)) (no' (differ_from r s.kept f)))
-    (cases_Bool (bytes_eq r s.kept))
+    (λ (t : bytes_eq r k ≡ true). subst P (sym (cond-true _ _ _ t)) (yes' (equal_from r k t)))
+    (λ (f : bytes_eq r k ≡ false). subst P (sym (cond-false _ _ _ f)) (no' (differ_from r k f)))
+    (cases_Bool (bytes_eq r k))
 
 below_follow : (run : ℕ) (r : List ℕ) (ss : List Stretch) → Follow (run + 1) ss → Follow run (below run r ss)
 below_follow run r [] h = (refl, omega arith, tt)
 below_follow run r (s ∷ ss) h =
     let more : run + 1 + s.count ≡ run + (s.count + 1) = omega arith in
-    below_both (Follow run) run r s ss
+    one_or_other (Follow run) r s.kept _ _
     (λ _. (refl, omega arith, subst (λ n. Follow n ss) more h.2))
     (λ _. (refl, omega arith, h))
 
 below_differ : (run : ℕ) (r : List ℕ) (ss : List Stretch) → Differ ss → Differ (below run r ss)
 below_differ run r [] h = (tt, tt)
 below_differ run r (s ∷ ss) h =
-    below_both Differ run r s ss
+    one_or_other Differ r s.kept _ _
     (λ e. (subst (λ k. NotFirst k ss) (sym e) h.0, h.1))
     (λ ne. (ne, h))
 
 below_records : (run : ℕ) (r : List ℕ) (ss : List Stretch) → records_of (below run r ss) ≡ r ∷ records_of ss
 below_records run r [] = refl
 below_records run r (s ∷ ss) =
-    below_both (λ l. records_of l ≡ r ∷ records_of (s ∷ ss)) run r s ss
+    one_or_other (λ l. records_of l ≡ r ∷ records_of (s ∷ ss)) r s.kept _ _
     (λ e. ap (λ n. replicate n r ++ records_of ss) (add-one s.count) ∙ ap (λ k. r ∷ (replicate s.count k ++ records_of ss)) e)
     (λ _. refl)
 
