@@ -2,7 +2,7 @@
 use Rattle.std.proofs.Common.{◌≡◌, ℕ, ◌+◌, ◌*◌, ◌/◌, ◌<◌, ◌≤◌, min, cond, ltb, Ok, Err, ap, ◌∙◌, add-zero, mul-div_cancel, arith}
 use Rattle.std.proofs.lemmas.Bool.{le-ltb, or_from, cond-false}
 use Rattle.stores.specs.declared.fault.StoreFault.TheVariants.{Unfit}
-use Rattle.stores.specs.Making.{limit_in, making}
+use Rattle.stores.specs.Making.{making}
 
 pub makes_64 : (width size : ℕ) → 4 ≤ width → width ≤ 289 → size ≡ 64 * width → making width 0 size ≡ Ok 64
 makes_64 width size narrow wide is =

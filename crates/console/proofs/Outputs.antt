@@ -1,5 +1,5 @@
 -- The answers to an input, by what was found of its parts. Assumes nothing.
-use Rattle.std.proofs.Common.{◌≡◌, ℕ, ◌≤◌, List, [], ◌∷◌, ◌++◌, length, Ok, Err, sym, refl, ap, ◌∙◌, subst, arith, length-append}
+use Rattle.std.proofs.Common.{◌≡◌, ℕ, ◌≤◌, List, [], ◌∷◌, ◌++◌, length, Ok, Err, sym, ap, ◌∙◌, subst, arith, length-append}
 use Rattle.refusals.specs.declared.refusal.Refusal.{Refusal}
 use Rattle.scales.specs.Scales.{plain}
 use Rattle.lines.specs.declared.policy.Policy.{Policy}

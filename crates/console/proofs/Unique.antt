@@ -1,5 +1,5 @@
 -- An input has at most one list of answers. Assumes nothing.
-use Rattle.std.proofs.Common.{◌≡◌, ℕ, ◌+◌, ◌<◌, ◌≤◌, List, [], ◌∷◌, ◌++◌, length, get_or, sym, refl, ap, ◌∙◌, subst, ⊎_elim, append_assoc, arith, length-append}
+use Rattle.std.proofs.Common.{◌≡◌, ℕ, ◌<◌, ◌≤◌, List, [], ◌∷◌, ◌++◌, length, get_or, sym, refl, ap, ◌∙◌, subst, ⊎_elim, append_assoc, arith, length-append}
 use Rattle.std.proofs.lemmas.List.{get_or_at}
 use Rattle.scales.specs.Algebra.{Algebra}
 use Rattle.scales.specs.Scales.{plain}
@@ -20,7 +20,7 @@ use Rattle.calls.specs.Lines.{lines_of, numbered}
 use Rattle.calls.proofs.Spellings.{one_call, same_cut}
 use Rattle.answers.specs.declared.answer.Answer.{Answer}
 use Rattle.answers.specs.declared.answer.Answer.TheVariants.{Refused, Policy}
-use Rattle.console.specs.Output.{asked_of, reply, Answered, call, no_call, AllAnswered, none, more, Printed, no_text, no_policy, many_lines, with_policy, OneOutput}
+use Rattle.console.specs.Output.{asked_of, reply, Answered, call, no_call, AllAnswered, none, more, no_text, no_policy, many_lines, with_policy, OneOutput}
 
 module _ (S : Algebra) (ls : List Line) (atoms limit : ℕ) where
   same_answer : {h k l : History} {n : ℕ} {line : List ℕ} {a b : Answer} → Answered S ls atoms limit h n line a k → Answered S ls atoms limit h n line b l → (a ≡ b) × (k ≡ l)

@@ -2,7 +2,6 @@
 use Rattle.std.specs.Prelude.{◌≡◌, ℕ, ◌≤◌, List, [], ◌∷◌, ◌++◌, length, vec_items, vec_len, vec_capacity}
 use Rattle.scales.specs.Algebra.{Algebra}
 use Rattle.scales.specs.Scales.{plain}
-use Rattle.scales.specs.declared.plain.Plain.{Plain}
 use Rattle.lines.specs.declared.policy.Policy.{Policy}
 use Rattle.lines.specs.Policies.{lines_of}
 use Rattle.logic.specs.History.{History}
@@ -10,7 +9,6 @@ use Rattle.stores.specs.Meaning.{Meaning}
 use Rattle.row_table.specs.declared.table.RowTable.{RowTable}
 use Rattle.row_table.specs.Table.{means}
 use Rattle.meaning.specs.Kept.{meaning}
-use Rattle.book.specs.declared.book.Book.{Book}
 use Rattle.book.specs.Books.{Every, Keeps, then}
 use Rattle.calls.specs.Lines.{numbered, lines_of as input_lines}
 use Rattle.calls.specs.Spelling.{Said}
@@ -35,9 +33,10 @@ LinesDone S p m lines before behind = Every S p m (λ h. (answers : List Answer)
 abbrev pub Ready : Room → Type 0
 Ready r = (vec_len r.memory ≡ 18496) × (vec_items r.answers ≡ []) × (65537 ≤ vec_capacity r.answers)
 
--- a book of the policy, on the plain scale, whose store has the limit 64 and represents no events
-abbrev pub Opened : Policy → Book Plain RowTable → Type 0
-Opened p b = (b.policy ≡ p) × ((means b.store).limit ≡ 64) × Keeps plain p (means b.store) []
+-- a book of the policy q on the store t is one of the policy p, on the plain scale, whose store has the limit 64 and
+-- represents no events
+abbrev pub Opened : Policy → Policy → RowTable → Type 0
+Opened p q t = (q ≡ p) × ((means t).limit ≡ 64) × Keeps plain p (means t) []
 
 -- how many atoms and lines a policy has
 abbrev pub sizes_of : Policy → Answer

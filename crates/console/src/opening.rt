@@ -53,7 +53,7 @@ fn new_table(mut memory: Vec<u8>, width: usize) -> RowTable
 /// A book of the policy with no runs yet.
 pub(crate) fn open_book(memory: Vec<u8>, room: BookRoom, policy: Policy) -> Book<Plain, RowTable>
     requires { vec_len memory ≡ 18496 }
-    ensures { Opened policy result }
+    ensures { Opened policy result.policy result.store }
 {
     let table = new_table(memory, 1 + policy.atoms() + 2 * policy.lines().len());
     match Book::open_in(room, policy, Plain, table) {

@@ -6,13 +6,13 @@ use Rattle.console.proofs.respond.Goals as goal
 pub returns-in-Err : goal.returns-in-Err
 returns-in-Err c = without_text c.args.input.now (vec_items c.refuse.result) c.refusal.result c.in-Err.fault c.in-Err.ensures c.refusal.ensures c.refuse.ensures
 
-pub answer-all-requires : goal.answer-all-requires
-answer-all-requires c = rest_short c.args.input.now c.in-Ok.cut.0.now c.in-Ok.cut.1.now c.in-Ok.ensures
+pub answer_all-requires : goal.answer_all-requires
+answer_all-requires c = rest_short c.args.input.now c.in-Ok.cut.0.now c.in-Ok.cut.1.now c.in-Ok.ensures
 
 pub returns-in-Ok-read : goal.returns-in-Ok-read
 returns-in-Ok-read c =
-    of_policy c.args.input.now c.in-Ok.cut.0.now c.in-Ok.cut.1.now c.in-Ok-read.reading (vec_items c.answer-all.result)
-    c.in-Ok.ensures c.in-Ok-read.ensures.right c.answer-all.ensures
+    of_policy c.args.input.now c.in-Ok.cut.0.now c.in-Ok.cut.1.now c.in-Ok-read.reading (vec_items c.answer_all.result)
+    c.in-Ok.ensures c.in-Ok-read.ensures.right c.answer_all.ensures
 
 pub returns-in-Err-read : goal.returns-in-Err-read
 returns-in-Err-read c =
