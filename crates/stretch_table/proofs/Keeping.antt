@@ -1,8 +1,9 @@
 -- What is known of a stretch table's bytes, and when bytes are those of a stretch table. Assumes nothing.
-use Rattle.std.proofs.Common.{◌≡◌, ℕ, zero, suc, ◌+◌, ◌-◌, ◌*◌, ◌<◌, ◌≤◌, List, [], ◌∷◌, ◌++◌, length, replicate, sym, ap, ◌∙◌, subst, mul-le-mul_right, arith}
+use Rattle.std.proofs.Common.{◌≡◌, ℕ, zero, suc, ◌+◌, ◌-◌, ◌*◌, ◌<◌, ◌≤◌, List, [], ◌∷◌, ◌++◌, length, replicate, vec_items, Vec, sym, ap, ◌∙◌, subst, mul-le-mul_right, arith}
+use Rattle.std.specs.Vec.{with_items}
 use Rattle.std.specs.List.{range_with_len, AllByRecursion}
 use Rattle.std.proofs.ByRecursion.{All-append, All-map, All-weaker}
-use Rattle.std.proofs.lemmas.List.{length-take, length-drop}
+use Rattle.std.proofs.lemmas.List.{length-take, length-drop, with_items_is}
 use Rattle.stores.specs.Bounds.{Sizes, Window, bounds_of}
 use Rattle.stores.specs.Meaning.{Meaning, IsRecord}
 use Rattle.stores.specs.declared.bounds.Bounds.{Bounds}
@@ -136,3 +137,21 @@ module _ (b : Bounds) (used : ℕ) (m : List ℕ) (k : Kept b used m) where
 
   pub bounds_are : bounds_of (meaning_of b used m) ≡ b
   bounds_are = ap (with_high b) (omega (arith, k.count, k.window))
+
+-- the same, where the bytes are written into a Vec
+module _ {Z : Type 0} (v : Vec ℕ Z) {b : Bounds} {ss : List Stretch} {rs : List (List ℕ)} {ws : List ℕ} (h : Lies b ss rs ws) (long : length ws ≡ length (vec_items v))
+    (used : ℕ) (all : length ss ≡ used) where
+  abbrev items : List ℕ
+  items = vec_items (with_items v ws)
+
+  items_are : items ≡ ws
+  items_are = with_items_is v ws (long ∙ sym v.ok.0)
+
+  pub kept_in : Kept b used items
+  kept_in = subst (λ n. Kept b n items) all (subst (Kept b (length ss)) (sym items_are) (kept_again h))
+
+  pub means_in : meaning_of b used items ≡ holding b rs
+  means_in = (λ i. meaning_of b (sym all i) (items_are i)) ∙ means_again h
+
+  pub length_in : length items ≡ length (vec_items v)
+  length_in = ap length items_are ∙ long

@@ -79,3 +79,8 @@ pub alone : Alone
 alone low [] follow differ = refl
 alone low (s ∷ ss) follow differ =
     alone_from low (s.count - 1) s ss follow.0 (omega (arith, follow.1)) differ.0 (alone (low + s.count) ss follow.2 differ.1)
+
+-- what holds of one way or the other of `below` holds of it
+below_both : (P : List Stretch → Type 0) (run : ℕ) (r : List ℕ) (s : Stretch) (ss : List Stretch)
+    → (r ≡ s.kept → P (stretch run (s.count + 1) r ∷ ss)) → ((r ≡ s.kept → ⊥) → P (stretch run 1 r ∷ s ∷ ss)) → P (below run r (s ∷ ss))
+below_both P run r s ss yes' no' = one_or_other P r s.kept (stretch run (s.count + 1) r ∷ ss) (stretch run 1 r ∷ s ∷ ss) yes' no'
