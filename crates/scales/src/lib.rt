@@ -2,7 +2,7 @@
 //! above takes any scale and is proved once, by the laws.
 //!
 //! Rests on nothing. specs/Algebra.antt says what a scale is and which laws it keeps, specs/Scales.antt
-//! defines the two scales here. A scale of one's own gets its laws by `laws_by_test` of proofs/Tables.antt.
+//! defines the two scales here. A scale of one's own gets its laws by `laws_by_test` of specs/Tables.antt.
 #![tactic(auto)]
 
 mod open;
