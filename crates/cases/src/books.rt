@@ -94,7 +94,7 @@ fn run_book<W: Write + Drop, K: Scale + Copy, T: Table + Drop>(
 }
 
 /// Runs a case: the scale, the kind of table, the size of its memory and the policy's text, then the calls.
-pub fn run<W: Write + Drop>(
+pub(crate) fn run<W: Write + Drop>(
     out: &mut BufWriter<W>,
     heap: Global,
     line: &str,

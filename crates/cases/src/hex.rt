@@ -14,7 +14,7 @@ fn digit(b: u8) -> Option<u8> {
 }
 
 /// The bytes that are written in hexadecimal, two digits each.
-pub fn decode(heap: Global, hex: &str) -> anyhow::Result<Vec<u8>> {
+pub(crate) fn decode(heap: Global, hex: &str) -> anyhow::Result<Vec<u8>> {
     let mut bytes = Vec::new(heap);
     for pair in hex.as_bytes().chunks(2) {
         let [high, low] = pair else {
@@ -29,7 +29,7 @@ pub fn decode(heap: Global, hex: &str) -> anyhow::Result<Vec<u8>> {
 }
 
 /// Prints the bytes, two digits each.
-pub fn print_hex<W: Write + Drop>(out: &mut BufWriter<W>, bytes: &[u8]) -> io::Result<()> {
+pub(crate) fn print_hex<W: Write + Drop>(out: &mut BufWriter<W>, bytes: &[u8]) -> io::Result<()> {
     for b in bytes {
         write!(out, "{b:02x}")?;
     }

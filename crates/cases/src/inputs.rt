@@ -5,7 +5,11 @@ use std::alloc::Global;
 use std::io::{BufWriter, Write};
 
 /// Runs a case: the input in hexadecimal.
-pub fn run<W: Write + Drop>(out: &mut BufWriter<W>, heap: Global, hex: &str) -> anyhow::Result<()> {
+pub(crate) fn run<W: Write + Drop>(
+    out: &mut BufWriter<W>,
+    heap: Global,
+    hex: &str,
+) -> anyhow::Result<()> {
     let input = decode(heap, hex)?;
     let room = Room::new(heap)?;
     for answer in respond(room, input.as_slice()) {

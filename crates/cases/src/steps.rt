@@ -27,7 +27,7 @@ pub struct Step {
 }
 
 impl Step {
-    pub fn call(&self) -> Call<'_> {
+    pub(crate) fn call(&self) -> Call<'_> {
         let codes = self.codes.as_slice();
         match self.kind {
             Kind::Start => Call::Start(codes),
@@ -53,7 +53,7 @@ fn kind_of(word: &str) -> Option<Kind> {
 }
 
 /// Reads a call: its name, a run, a line and codes, with 0 or nothing for what it has not.
-pub fn parse_step(heap: Global, text: &str) -> anyhow::Result<Step> {
+pub(crate) fn parse_step(heap: Global, text: &str) -> anyhow::Result<Step> {
     let mut words = text.split(' ');
     let Some(kind) = kind_of(words.next().unwrap_or("")) else {
         return Err(anyhow!("no call"));
@@ -70,7 +70,7 @@ pub fn parse_step(heap: Global, text: &str) -> anyhow::Result<Step> {
 }
 
 /// The calls of a case, which stand behind its head.
-pub fn parse_steps(heap: Global, line: &str) -> anyhow::Result<Vec<Step>> {
+pub(crate) fn parse_steps(heap: Global, line: &str) -> anyhow::Result<Vec<Step>> {
     let mut steps = Vec::new(heap);
     for text in line.split(';').skip(1) {
         let step = parse_step(heap, text)?;
@@ -79,7 +79,10 @@ pub fn parse_steps(heap: Global, line: &str) -> anyhow::Result<Vec<Step>> {
     Ok(steps)
 }
 
-pub fn print_answer<W: Write + Drop>(out: &mut BufWriter<W>, answer: Answer) -> io::Result<()> {
+pub(crate) fn print_answer<W: Write + Drop>(
+    out: &mut BufWriter<W>,
+    answer: Answer,
+) -> io::Result<()> {
     match answer {
         Answer::Started(run) => write!(out, "started {run}"),
         Answer::Changed(count, verdict) => write!(out, "changed {count} verdict {verdict}"),

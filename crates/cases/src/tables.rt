@@ -47,7 +47,10 @@ impl Table for StretchTable {
 }
 
 /// Prints low, high and every byte of the memory.
-pub fn print_table<W: Write + Drop, T: Table>(out: &mut BufWriter<W>, table: &T) -> io::Result<()> {
+pub(crate) fn print_table<W: Write + Drop, T: Table>(
+    out: &mut BufWriter<W>,
+    table: &T,
+) -> io::Result<()> {
     let low = table.low();
     let high = table.high();
     write!(out, " low {low} high {high} memory ")?;
@@ -140,7 +143,7 @@ fn run_calls<W: Write + Drop, T: Table + Drop>(
 }
 
 /// Runs a case: the kind of table, the width and the size of its memory, then the calls.
-pub fn run<W: Write + Drop>(
+pub(crate) fn run<W: Write + Drop>(
     out: &mut BufWriter<W>,
     heap: Global,
     line: &str,

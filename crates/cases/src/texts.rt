@@ -89,7 +89,11 @@ fn print_case<W: Write + Drop>(out: &mut BufWriter<W>, text: &[u8]) -> io::Resul
 }
 
 /// Runs a case: the text in hexadecimal.
-pub fn run<W: Write + Drop>(out: &mut BufWriter<W>, heap: Global, hex: &str) -> anyhow::Result<()> {
+pub(crate) fn run<W: Write + Drop>(
+    out: &mut BufWriter<W>,
+    heap: Global,
+    hex: &str,
+) -> anyhow::Result<()> {
     let text = decode(heap, hex)?;
     print_case(out, text.as_slice())?;
     Ok(())
