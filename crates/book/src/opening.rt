@@ -6,6 +6,7 @@ ghost use Rattle.book.specs.Books.{Keeps, opening_refusal};
 ghost use Rattle.book.specs.Opened.{Refuses};
 
 use crate::book::{Book, Room};
+use crate::rooming::make_room;
 use lines::Policy;
 use meaning::BookFault;
 use scales::Scale;
@@ -48,11 +49,7 @@ fn room_for(heap: Global, policy: &Policy) -> Result<Room, AllocError>
     ensures { IfOk result (λ x. (vec_len x.rec ≡ 1 + policy.now.atoms + 2 * length (lines_of policy.now)) × (vec_len x.previous ≡ length (lines_of policy.now)) × (vec_len x.row ≡ length (lines_of policy.now))) }
 {
     let lines = policy.lines().len();
-    let width = 1 + policy.atoms() + 2 * lines;
-    let rec = vec![in heap; 0; width]?;
-    let previous = vec![in heap; 0; lines]?;
-    let row = vec![in heap; 0; lines]?;
-    Ok(Room { rec, previous, row })
+    make_room(heap, 1 + policy.atoms() + 2 * lines, lines)
 }
 
 impl<K: Scale, S: Store> Book<K, S> {

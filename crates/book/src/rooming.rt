@@ -17,7 +17,7 @@ const WIDEST: usize = 289;
 const MOST_LINES: usize = 128;
 
 /// Makes room for records of this width and rows of this many lines, and does nothing else.
-fn make_room(heap: Global, width: usize, lines: usize) -> Result<Room, AllocError>
+pub(crate) fn make_room(heap: Global, width: usize, lines: usize) -> Result<Room, AllocError>
     ensures { IfOk result (λ x. (vec_len x.rec ≡ width) × (vec_len x.previous ≡ lines) × (vec_len x.row ≡ lines)) }
 {
     let rec = vec![in heap; 0; width]?;
