@@ -1,8 +1,9 @@
-use Rattle.std.proofs.Common.{◌≡◌, [], map, None, vec_items, sym, subst, rules}
+use Rattle.std.proofs.Common.{◌≡◌, List, [], map, None, vec_items, refl, sym, subst, rules}
 use Rattle.lines.specs.Policies.{lines_of}
-use Rattle.meaning.specs.Calls.{asked}
+use Rattle.stores.specs.Meaning.{Meaning}
+use Rattle.meaning.specs.Calls.{Asked, asked}
 use Rattle.meaning.specs.Calls as call
-use Rattle.clearness.specs.Clearness.{ClearerAnswers}
+use Rattle.clearness.specs.Clearness.{ClearerCalls, ClearerAnswers}
 use Rattle.clearness.proofs.Clearness.{clearer_answered}
 use Rattle.book.specs.Books.{opening_refusal, answers}
 use Rattle.book.proofs.performing.perform.Goals as goal
@@ -13,12 +14,14 @@ returns-in-Ok-with_capacity g c =
     let p = c.args.policy in
     let m = g.S.Store.meaning c.args.store in
     let v : (opening_refusal p m ≡ None) × (vec_items c.answer_each.new.out ≡ answers S p m [] (map asked c.args.calls.now)) = search rules in
+    let law : (other : Meaning) (ds : List Asked) → other.limit ≡ m.limit → ClearerCalls S (map asked c.args.calls.now) ds → ClearerAnswers S (vec_items c.answer_each.new.out) (answers S p other [] ds) =
+    λ other ds same k.
+    let by_limit = clearer_answered S g.met.K.Scale.holds (lines_of p) p.atoms m.limit (map asked c.args.calls.now) ds k in
+    subst (λ x. ClearerAnswers S x (answers S p other [] ds)) (sym v.1)
+    (subst (λ n. ClearerAnswers S (answers S p m [] (map asked c.args.calls.now)) (call.answers S (lines_of p) p.atoms n [] ds)) (sym same) by_limit) in
     record {
       value = v;
       after = search rules;
-      clearer = λ ds k. subst (λ x. ClearerAnswers S x (answers S p m [] ds)) (sym v.1) (clearer_answered S g.met.K.Scale.holds (lines_of p) p.atoms m.limit (map asked c.args.calls.now) ds k);
-      elsewhere = λ other ds same k.
-          let law = clearer_answered S g.met.K.Scale.holds (lines_of p) p.atoms m.limit (map asked c.args.calls.now) ds k in
-          subst (λ x. ClearerAnswers S x (answers S p other [] ds)) (sym v.1)
-          (subst (λ n. ClearerAnswers S (answers S p m [] (map asked c.args.calls.now)) (call.answers S (lines_of p) p.atoms n [] ds)) (sym same) law);
+      clearer = λ ds k. law m ds refl k;
+      elsewhere = law;
     }
