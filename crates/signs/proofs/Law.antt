@@ -10,7 +10,7 @@ use Rattle.std.proofs.lemmas.Bool.Decides.{nat_tests, not_from_Decides}
 use Rattle.signs.specs.declared.sign.Mark.{Mark}
 use Rattle.signs.specs.declared.sign.Mark.TheVariants.{Open, Close, Not, And, Or, Arrow, Comma, Semicolon, Stop, YL, SL, OL, HL, YG, SG, OG, HG, Atoms, Rule, True, False}
 use Rattle.signs.specs.Marks.{mark_spelling}
-use Rattle.signs.specs.Signs.{is_blank, is_letter, is_name_byte, Kind, mark, name, end, mark_at, word_of, found, found_mark, found_at, next_sign}
+use Rattle.signs.specs.Signs.{is_blank, is_letter, is_name_byte, Kind, mark, name, end, Found, mark_at, word_of, found, found_mark, found_at, next_sign}
 use Rattle.signs.specs.Stands.{spelling, part, Blanks, Word, Whole, Stands, sign_stands, no_sign, long_name}
 use Rattle.signs.proofs.Stretches.{by_cond, Stretch, stretch}
 
@@ -63,10 +63,10 @@ part_second : (text : List ℕ) (f n : ℕ) {w : List ℕ} → part text f (f + 
 part_second text f n e h = sym (part_get_or text f n 1 h) ∙ ap (λ v. get_or v 1 0) e
 
 clash : {A : Type 0} {o : Option A} {x : A} → o ≡ Some x → o ≡ None → ⊥
-clash p q = let z : ◌≡◌ {A = ℕ} 0 1 = cc in omega arith
+clash p q = cc
 
 differ : {b : Bool} → b ≡ true → b ≡ false → ⊥
-differ p q = let z : ◌≡◌ {A = ℕ} 0 1 = cc in omega arith
+differ p q = cc
 
 -- where no mark is found, none is spelled
 module _ (text : List ℕ) (f : ℕ) (low : is_letter (get_or text f 0) ≡ false) (bare : mark_at (get_or text f 0) (get_or text (f + 1) 0) ≡ None) where
@@ -215,6 +215,9 @@ module _ (text : List ℕ) (at f : ℕ) (blanks : Stretch is_blank text at f) wh
 pub signs_stand : (text : List ℕ) (at : ℕ) → at ≤ length text → Stands text at (next_sign text at)
 signs_stand text at h = stands_at text at (at + prefix_len is_blank (drop at text)) (stretch is_blank text at h)
 
+pub found_stands : {text : List ℕ} {at : ℕ} {r : Found} → at ≤ length text → r ≡ next_sign text at → Stands text at r
+found_stands {text} {at} h e = subst (Stands text at) (sym e) (signs_stand text at h)
+
 -- a sign that stands ends in the text, behind the place that it was sought from
 pub record Onward (text : List ℕ) (at : ℕ) (k : Kind) (f e : ℕ) : Type 0 where
   pub from_on : at ≤ f
@@ -223,7 +226,7 @@ pub record Onward (text : List ℕ) (at : ℕ) (k : Kind) (f e : ℕ) : Type 0 w
   pub more : (k ≡ end → ⊥) → f < e
 
 some : {x : ℕ} {xs : List ℕ} → x ∷ xs ≡ [] → ⊥
-some e = let z : ◌≡◌ {A = ℕ} 0 1 = cc in omega arith
+some e = cc
 
 mark_some : (m : Mark) → mark_spelling m ≡ [] → ⊥
 mark_some Open e = some e
