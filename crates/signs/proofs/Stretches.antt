@@ -4,11 +4,6 @@ use Rattle.std.specs.List.{prefix_len}
 use Rattle.std.proofs.lemmas.List.{get_or-drop}
 use Rattle.std.proofs.lemmas.List.Sums.{prefix_len-le-length, prefix_len_passes, prefix_len_stops}
 
--- a condition, by its two cases
-pub by_cond : {A : Type 0} (P : A → Type 0) (b : Bool) (x y : A) → (b ≡ true → P x) → (b ≡ false → P y) → P (cond b x y)
-by_cond P true x y t f = t refl
-by_cond P false x y t f = f refl
-
 -- from a up to b, and no further, each byte passes
 pub record Stretch (p : ℕ → Bool) (xs : List ℕ) (a b : ℕ) : Type 0 where
   pub order : a ≤ b
