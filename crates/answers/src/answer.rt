@@ -2,7 +2,9 @@
 use refusals::Refusal;
 
 /// What the program answers to its policy text or to a call.
-#[derive(Clone, Copy)]
+///
+/// A refusal is a case of it, and no error of a `Result`: each answer is one line, and a `Result` has no printed form.
+#[derive(Clone, Copy, PartialEq, Eq, Debug)]
 pub enum Answer {
     /// The policy text was read.
     Policy { atoms: usize, lines: usize },

@@ -1,11 +1,12 @@
 -- Lines: cut one by one, and joined to the input again.
-use Rattle.std.proofs.Common.{◌≡◌, ℕ, zero, suc, ◌-◌, ◌<◌, Bool, true, false, cond, eqb, List, [], ◌∷◌, ◌++◌, length, get_or, take, drop, sym, refl, ap, ◌∙◌, subst, append-nil, arith}
+use Rattle.std.proofs.Common.{◌≡◌, ℕ, zero, suc, Bool, true, false, cond, eqb, List, [], ◌∷◌, ◌++◌, length, get_or, drop, Option, Some, None, MatchOption, Bor, sym, refl, ap, ◌∙◌, subst, append-nil, arith}
 use Rattle.std.specs.List.{AllByRecursion}
-use Rattle.std.proofs.lemmas.List.{take_rest, drop_all, nil_from_length}
+use Rattle.std.specs.Option.{unwrap_or}
+use Rattle.std.proofs.lemmas.List.{nil_from_length}
 use Rattle.std.proofs.lemmas.Bool.{eqb-true, eqb-false, ne_eqb}
 use Rattle.calls.specs.Input.{Lacks, CutAt}
 use Rattle.calls.specs.Lines.{begin_with, lines_of, joined_lines, AreLines, LinesLaw, numbered}
-use Rattle.calls.proofs.Cuts.{cut_within, lacks_tail}
+use Rattle.calls.proofs.Cuts.{lacks_tail}
 
 lacks_more : (z b : ℕ) (xs : List ℕ) → (b ≡ z → ⊥) → Lacks z xs → Lacks z (b ∷ xs)
 lacks_more z b xs other h zero lt e = other e
@@ -23,18 +24,17 @@ line_more : (line after : List ℕ) → Lacks 10 line → lines_of (line ++ (10 
 line_more [] after h = refl
 line_more (b ∷ line) after h = other_byte b (line ++ (10 ∷ after)) (h 0 (omega arith)) ∙ ap (begin_with b) (line_more line after (lacks_tail 10 b line h))
 
-pub cut_line : (bs line after : List ℕ) → CutAt 10 bs line after → ((n : ℕ) → numbered n (lines_of bs) ≡ numbered n (line ∷ lines_of after)) × (length after < length bs)
-cut_line bs line after cut = (λ n. ap (numbered n) (ap lines_of cut.0 ∙ line_more line after cut.1), omega (arith, cut_within 10 bs line after cut))
+cut_line : (bs line after : List ℕ) → CutAt 10 bs line after → (n : ℕ) → numbered n (lines_of bs) ≡ numbered n (line ∷ lines_of after)
+cut_line bs line after cut n = ap (numbered n) (ap lines_of cut.0 ∙ line_more line after cut.1)
 
 last_numbered : (n : ℕ) (line : List ℕ) → numbered n (line ∷ []) ≡ numbered n (line ∷ lines_of [])
 last_numbered n [] = refl
 last_numbered n (b ∷ bs) = refl
 
-nothing_left : (bs : List ℕ) → take (length bs - length bs) (drop (length bs) bs) ≡ []
-nothing_left bs = take_rest bs (length bs) ∙ drop_all (length bs) bs (omega arith)
-
-pub last_line : (bs : List ℕ) → Lacks 10 bs → ((n : ℕ) → numbered n (lines_of bs) ≡ numbered n (bs ∷ lines_of (take (length bs - length bs) (drop (length bs) bs)))) × (0 < length bs → length (take (length bs - length bs) (drop (length bs) bs)) < length bs)
-last_line bs h = rw (nothing_left bs) (λ n. ap (numbered n) (one_line bs h) ∙ last_numbered n bs, λ lt. lt)
+-- a line ends at byte 10, or with the input, behind which nothing stands
+pub first_cut : (bs : List ℕ) (o : Option (Bor (List ℕ) × Bor (List ℕ))) (d r : Bor (List ℕ) × Bor (List ℕ)) → MatchOption o (Lacks 10 bs) (λ p. CutAt 10 bs p.0.now p.1.now) → d.0.now ≡ bs → d.1.now ≡ [] → r ≡ unwrap_or o d → (n : ℕ) → numbered n (lines_of bs) ≡ numbered n (r.0.now ∷ lines_of r.1.now)
+first_cut bs (Some p) d r cut whole end is n = rw is (cut_line bs p.0.now p.1.now cut n)
+first_cut bs None d r lacks whole end is n = rw (is, whole, end) (ap (numbered n) (one_line bs lacks) ∙ last_numbered n bs)
 
 -- the lines of an input, with what holds of them
 record Found (bs : List ℕ) : Type 0 where

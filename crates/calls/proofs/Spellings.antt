@@ -1,29 +1,26 @@
 -- Digits read one by one, and that bytes spell at most one call.
-use Rattle.std.proofs.Common.{◌≡◌, ℕ, ◌+◌, ◌-◌, ◌^◌, ◌<◌, ◌≤◌, ◌⊎◌, List, [], ◌∷◌, ◌++◌, length, get_or, take, drop, set, sym, refl, ap, ◌∙◌, subst, inl, inr, ⊎_elim, arith, length-append}
-use native.Mathlib.Nat.{pow-le-pow_right}
-use Rattle.std.proofs.lemmas.List.{take_all, take_more_set, take-map, map_more, length-map, get_or_at, length-take-le}
-use Rattle.std.proofs.lemmas.Int.Digits.{digits_value-lt}
-use Rattle.std.proofs.lemmas.Str.Parse.{digit_at}
-use Rattle.std.proofs.lemmas.Bool.Decides.{nat_tests}
-use Rattle.std.specs.Str.Parse.{AllDigits, digits_value}
+use Rattle.std.proofs.Common.{◌≡◌, ℕ, ◌-◌, ◌<◌, ◌≤◌, min, Bool, true, false, List, [], ◌∷◌, ◌++◌, length, get_or, take, drop, Result, Ok, Err, MatchBool, MatchOption, sym, refl, ap, ◌∙◌, subst, ⊎_elim, arith, length-append, append-nil}
+use Rattle.std.proofs.lemmas.List.{take_all, drop_all, take_min, take-map, length-map, get_or_at}
+use Rattle.std.proofs.lemmas.Str.Parse.{IsNumeralModel, numerals_by_value, tells_by_index, tells_digits, digit_at, digits_value_short, parse_digits}
+use Rattle.std.specs.Str.Parse.{AllDigits, digits_value, ParsesUnsigned}
 use Rattle.std.specs.Int.{IsInRange, IsOutOfRange}
-use Rattle.std.specs.Char.{digit_value as char_digit_value}
+use Rattle.std.specs.List.{AllWithin, HoldsAt}
+use Rattle.std.specs.Result.{result_ok}
 use Rattle.calls.specs.Input.{Lacks, CutAt}
 use Rattle.calls.proofs.Cuts.{lacks_tail}
 use Rattle.calls.specs.Spelling.{digit_value, digit_values, Codes, RunNumber, RunAndCodes, Said, codes_in, start, report, preview, close, verdict, Spells, OneCall}
 
-pub digit_is : (c : ℕ) → IsInRange 48 57 c → char_digit_value c ≡ c - 48
-digit_is c h = grind (arith, nat_tests)
+pub digits_told : (r : Bool) (xs : List ℕ) → MatchBool r (AllWithin (IsInRange 48 57) xs 0 (length xs)) ((k : ℕ) × (k < length xs) × HoldsAt (IsOutOfRange 48 57) xs k) → MatchBool r (AllDigits 10 xs) (AllDigits 10 xs → ⊥)
+digits_told true xs h = (numerals_by_value _ tells_by_index).to xs (λ i lt. h i 0 (omega arith) lt)
+digits_told false xs h = λ all. let d = digit_at xs h.0 all h.1 in ⊎_elim (λ a. omega (arith, d.0)) (λ a. omega (arith, d.1)) (h.2 0)
 
-pub no_digit : (xs : List ℕ) (i : ℕ) → i < length xs → IsOutOfRange 48 57 (get_or xs i 0) → AllDigits 10 xs → ⊥
-no_digit xs i lt out all = let h = digit_at xs i all lt in ⊎_elim (λ a. omega (arith, h.0)) (λ a. omega (arith, h.1)) out
+numerals : IsNumeralModel (AllDigits 10) (digits_value 10)
+numerals = numerals_by_value (AllDigits 10) tells_digits
 
--- the number of fewer than six digits leaves room for one more
-pub room : (xs : List ℕ) (i : ℕ) → AllDigits 10 (take i xs) → i ≤ length xs → i ≤ 5 → digits_value 10 (take i xs) < 100000
-room xs i all le few =
-    let bound = digits_value-lt 10 (take i xs) all in
-    let pow : 10 ^ i ≤ 10 ^ 5 = pow-le-pow_right (omega arith) few in
-    omega (arith, rw (length-take-le i xs le) at bound)
+-- what `parse` makes of at most six digits
+pub run_read : {E : Type 0} (bs : List ℕ) (r : Result ℕ E) → AllDigits 10 bs → length bs ≤ 6 → ParsesUnsigned 32 10 bs r → MatchOption (result_ok r) ((n : ℕ) → RunNumber bs n → ⊥) (λ n. RunNumber bs n)
+run_read {E} bs (Ok n) all few h = let p = parse_digits numerals {E = E} 32 bs (Ok n) h all in record { some = p.0.0; few = few; all = all; writes = p.1 }
+run_read {E} bs (Err e) all few h = λ n run. parse_digits numerals {E = E} 32 bs (Err e) h all (run.some, omega (arith, digits_value_short numerals bs 6 all few))
 
 -- there is one cut at the first z
 pub same_cut : (z : ℕ) (a b c d : List ℕ) → Lacks z a → Lacks z c → a ++ (z ∷ b) ≡ c ++ (z ∷ d) → (a ≡ c) × (b ≡ d)
@@ -56,23 +53,11 @@ opened [] a b l p q = absurd (omega arith)
 opened (x ∷ []) a b l p q = absurd (omega arith)
 opened (x ∷ y ∷ ys) a b l p q = let e = take_all (length (x ∷ y ∷ ys) - 2) ys (omega arith) in cc
 
-pub alone : (xs : List ℕ) (a : ℕ) → length xs ≡ 1 → get_or xs 0 0 ≡ a → xs ≡ a ∷ []
-alone [] a l p = absurd (omega arith)
-alone (x ∷ []) a l p = cc
-alone (x ∷ y ∷ ys) a l p = absurd (omega arith)
-
 head : {xs ys zs : List ℕ} (a b : ℕ) → xs ≡ a ∷ ys → xs ≡ b ∷ zs → a ≡ b
 head a b p q = ap (λ l. get_or l 0 0) (sym p ∙ q)
 
 tail : {xs ys zs : List ℕ} {a b c d : ℕ} → xs ≡ a ∷ b ∷ ys → xs ≡ c ∷ d ∷ zs → zs ≡ ys
 tail p q = ap (drop 2) (sym q ∙ p)
-
-pub no_start : (xs rest : List ℕ) → xs ≡ 78 ∷ 32 ∷ rest → ((cs : List ℕ) → Codes rest cs → ⊥) → (c : Said) → Spells c xs → ⊥
-no_start xs rest e no' (start cs) h = no' cs (subst (λ l. Codes l cs) (tail e h.1) h.2)
-no_start xs rest e no' (report n cs) h = omega (arith, head 78 85 e h.1)
-no_start xs rest e no' (preview n cs) h = omega (arith, head 78 80 e h.1)
-no_start xs rest e no' (close n) h = omega (arith, head 78 69 e h.1)
-no_start xs rest e no' verdict h = omega (arith, head 78 86 e h)
 
 pub no_report : (xs rest : List ℕ) → xs ≡ 85 ∷ 32 ∷ rest → ((n : ℕ) (cs : List ℕ) → RunAndCodes rest n cs → ⊥) → (c : Said) → Spells c xs → ⊥
 no_report xs rest e no' (start cs) h = omega (arith, head 85 78 e h.1)
@@ -87,13 +72,6 @@ no_preview xs rest e no' (report n cs) h = omega (arith, head 80 85 e h.1)
 no_preview xs rest e no' (preview n cs) h = no' n cs (subst (λ l. RunAndCodes l n cs) (tail e h.1) h.2)
 no_preview xs rest e no' (close n) h = omega (arith, head 80 69 e h.1)
 no_preview xs rest e no' verdict h = omega (arith, head 80 86 e h)
-
-pub no_close : (xs rest : List ℕ) → xs ≡ 69 ∷ 32 ∷ rest → ((n : ℕ) → RunNumber rest n → ⊥) → (c : Said) → Spells c xs → ⊥
-no_close xs rest e no' (start cs) h = omega (arith, head 69 78 e h.1)
-no_close xs rest e no' (report n cs) h = omega (arith, head 69 85 e h.1)
-no_close xs rest e no' (preview n cs) h = omega (arith, head 69 80 e h.1)
-no_close xs rest e no' (close n) h = no' n (subst (λ l. RunNumber l n) (tail e h.1) h.2)
-no_close xs rest e no' verdict h = omega (arith, head 69 86 e h)
 
 letter : Said → ℕ
 letter (start cs) = 78
@@ -152,18 +130,9 @@ one_call bs verdict (preview n' cs') h k = absurd (omega (arith, same_letter bs 
 one_call bs verdict (close n') h k = absurd (omega (arith, same_letter bs verdict (close n') h k))
 one_call bs verdict verdict h k = refl
 
--- one more digit's value behind those in the room
-pub values_more : (xs room : List ℕ) (i : ℕ) → i < length xs → i < length room → take i room ≡ digit_values (take i xs) → take (i + 1) (set room i (get_or xs i 0 - 48)) ≡ digit_values (take (i + 1) xs)
-values_more xs room i lt lt' e = take_more_set room i (get_or xs i 0 - 48) lt' ∙ ap (λ l. l ++ ((get_or xs i 0 - 48) ∷ [])) e ∙ sym (map_more digit_value xs i 0 lt)
-
--- all digits, or the first 64 of more
-pub values_kept : (xs room : List ℕ) (count i : ℕ) → count ≤ i → i ≤ count → ((count ≡ 64) × (64 ≤ length xs)) ⊎ ((count ≡ length xs) × (length xs ≤ 64)) → take i room ≡ digit_values (take i xs) → take count room ≡ take 64 (digit_values xs)
-values_kept xs room count i le ge (inl all) e = let at : i ≡ 64 = omega (arith, all.0) in let same : count ≡ i = omega arith in ap (λ n. take n room) same ∙ e ∙ ap (λ n. digit_values (take n xs)) at ∙ sym (take-map digit_value 64 xs)
-values_kept xs room count i le ge (inr all) e =
-    let same : count ≡ i = omega arith in
-    let long : length xs ≤ i = omega (arith, all.0) in
-    let short : length (digit_values xs) ≤ 64 = omega (arith, length-map xs digit_value, all.1) in
-    ap (λ n. take n room) same ∙ e ∙ ap digit_values (take_all i xs long) ∙ sym (take_all 64 (digit_values xs) short)
+-- the values of the first 64 digits, each written over its digit
+pub values_kept : (digits kept codes : List ℕ) (i : ℕ) → kept ≡ take (min 64 (length digits)) digits → length kept ≤ i → codes ≡ digit_values (take i kept) ++ drop i kept → codes ≡ take 64 (digit_values digits)
+values_kept digits kept codes i is past e = e ∙ rw (take_all i kept past, drop_all i kept past, append-nil) (ap digit_values (is ∙ take_min 64 digits) ∙ sym (take-map digit_value 64 digits))
 
 all_values : (ds cs : List ℕ) → Codes ds cs → take 64 cs ≡ cs
 all_values ds cs h = let long : length cs ≤ 64 = omega (arith, h.few, ap length h.values ∙ length-map ds digit_value) in take_all 64 cs long

@@ -9,19 +9,21 @@ use crate::input::cut_at;
 pub const MOST_CODES: usize = 64;
 
 /// Room for the codes of a call.
-pub type CodeRoom = [u8; 64];
+pub type CodeRoom = [u8; MOST_CODES];
 
 /// The most digits of a run number.
 pub const MOST_RUN_DIGITS: usize = 6;
 
 /// Codes as a line spells them: digits, each of which stands for the code of its value.
-#[derive(Clone, Copy)]
+#[derive(Clone, Copy, PartialEq, Eq, Debug)]
 pub struct CodeDigits<'a> {
     pub(crate) digits: &'a [u8],
 }
 
 /// What a line asks of the book.
-#[derive(Clone, Copy)]
+///
+/// No twin of `meaning::Call`: no line asks for a line's truth, and its codes are still digits.
+#[derive(Clone, Copy, PartialEq, Eq, Debug)]
 pub enum Call<'a> {
     /// `N codes` starts a run.
     Start(CodeDigits<'a>),
@@ -40,26 +42,20 @@ impl<'a> CodeDigits<'a> {
     pub fn codes<'b>(&self, room: &'b mut CodeRoom) -> &'b [u8]
         ensures { result.now ≡ take 64 (codes_of self.now) }
     {
-        let mut count = self.digits.len();
-        if count > MOST_CODES {
-            count = MOST_CODES;
+        let count = MOST_CODES.min(self.digits.len());
+        let codes = &mut room[..count];
+        codes.copy_from_slice(&self.digits[..count]);
+        for code in codes.iter_mut() {
+            *code = code.saturating_sub(b'0');
         }
-        for i in 0..count {
-            room[i] = self.digits[i].saturating_sub(b'0');
-        }
-        &room[0..count]
+        codes
     }
 }
 
 fn is_digits(bytes: &[u8]) -> bool
     ensures { MatchBool result (AllDigits 10 bytes.now) (AllDigits 10 bytes.now → ⊥) }
 {
-    for b in bytes {
-        if !b.is_ascii_digit() {
-            return false;
-        }
-    }
-    true
+    bytes.iter().all(u8::is_ascii_digit)
 }
 
 fn parse_codes(bytes: &[u8]) -> Option<CodeDigits<'_>>
@@ -74,17 +70,11 @@ fn parse_codes(bytes: &[u8]) -> Option<CodeDigits<'_>>
 fn parse_run(bytes: &[u8]) -> Option<u32>
     ensures { MatchOption result ((n : ℕ) → RunNumber bytes.now n → ⊥) (λ n. RunNumber bytes.now n) }
 {
-    if bytes.is_empty() || bytes.len() > MOST_RUN_DIGITS {
+    // `parse` takes a plus sign too
+    if bytes.len() > MOST_RUN_DIGITS || !is_digits(bytes) {
         return None;
     }
-    let mut n: u32 = 0;
-    for b in bytes {
-        if !b.is_ascii_digit() {
-            return None;
-        }
-        n = n * 10 + u32::from(*b - b'0');
-    }
-    Some(n)
+    str::from_utf8(bytes).ok()?.parse().ok()
 }
 
 fn parse_run_and_codes(bytes: &[u8]) -> Option<(u32, CodeDigits<'_>)>

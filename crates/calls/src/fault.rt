@@ -1,4 +1,4 @@
-//! Why the program refuses.
+//! Why the program refuses, and the number, layer and place of it.
 ghost use Rattle.std.specs.Prelude.{◌≡◌};
 ghost use Rattle.calls.specs.Faults.{refusal_of};
 
@@ -13,12 +13,11 @@ pub enum ProgramFault {
     NoCall(usize),
 }
 
-impl ProgramFault {
-    /// The fault's row in the refusal table.
-    pub fn refusal(&self) -> Refusal
-        ensures { result ≡ refusal_of self.now }
-    {
-        match *self {
+impl From<ProgramFault> for Refusal {
+    ghost from_gives = { λ f r. r ≡ refusal_of f };
+
+    fn from(f: ProgramFault) -> Refusal {
+        match f {
             ProgramFault::NoPolicy => Refusal {
                 number: 40,
                 layer: Layer::Program,

@@ -12,12 +12,8 @@ pub const MOST_INPUT: usize = 65_536;
 pub fn cut_at(bytes: &[u8], byte: u8) -> Option<(&[u8], &[u8])>
     ensures { MatchOption result (Lacks byte bytes.now) (λ p. CutAt byte bytes.now p.0.now p.1.now) }
 {
-    for (i, b) in bytes.iter().enumerate() {
-        if *b == byte {
-            return Some((&bytes[0..i], &bytes[i + 1..]));
-        }
-    }
-    None
+    let i = bytes.iter().position(|b| *b == byte)?;
+    Some((&bytes[..i], &bytes[i + 1..]))
 }
 
 /// The policy text, which ends with the input's first full stop, and what comes behind it.
@@ -27,8 +23,6 @@ pub fn cut_input(input: &[u8]) -> Result<(&[u8], &[u8]), ProgramFault>
     if input.len() > MOST_INPUT {
         return Err(ProgramFault::NoPolicy);
     }
-    match cut_at(input, b'.') {
-        Some((words, rest)) => Ok((&input[0..words.len() + 1], rest)),
-        None => Err(ProgramFault::NoPolicy),
-    }
+    let (words, rest) = cut_at(input, b'.').ok_or(ProgramFault::NoPolicy)?;
+    Ok((&input[..words.len() + 1], rest))
 }

@@ -11,7 +11,7 @@ mod input;
 mod lines;
 mod walk;
 
-pub use call::{Call, CodeDigits, CodeRoom, parse_call, spelling_is_unique};
+pub use call::{Call, CodeDigits, CodeRoom, MOST_CODES, parse_call, spelling_is_unique};
 pub use fault::ProgramFault;
 pub use input::{cut_at, cut_input};
 pub use lines::Lines;

@@ -1,5 +1,6 @@
 //! The walk over the lines of an input.
-ghost use Rattle.std.specs.Prelude.{◌≡◌, ℕ, ◌<◌, [], ◌∷◌, length, MatchOption};
+ghost use Rattle.std.specs.Prelude.{◌≡◌, ℕ, ◌<◌, ◌∷◌, length};
+ghost use Rattle.std.specs.Iterator.{YieldsFirstBy, item_count};
 ghost use Rattle.calls.specs.Lines.{lines_of, numbered, lines_left, LinesLaw};
 
 use crate::input::cut_at;
@@ -10,10 +11,7 @@ fn first_line(bytes: &[u8]) -> (&[u8], &[u8])
     ensures value { (n : ℕ) → numbered n (lines_of bytes.now) ≡ numbered n (result.0.now ∷ lines_of result.1.now) }
     ensures shorter { 0 < length bytes.now → length result.1.now < length bytes.now }
 {
-    match cut_at(bytes, b'\n') {
-        Some(cut) => cut,
-        None => (bytes, &bytes[bytes.len()..]),
-    }
+    cut_at(bytes, b'\n').unwrap_or((bytes, &[]))
 }
 
 impl<'a> Lines<'a> {
@@ -26,11 +24,17 @@ impl<'a> Lines<'a> {
             passed: 0,
         }
     }
+}
 
-    /// The next line that is not empty, with its number.
-    pub fn next(&mut self) -> Option<(usize, &'a [u8])>
-        ensures { MatchOption result ((lines_left self.old ≡ []) × (lines_left self.new ≡ [])) (λ p. lines_left self.old ≡ (p.0, p.1.now) ∷ lines_left self.new) }
-    {
+/// The lines that are not empty, each with its number.
+impl<'a> Iterator for Lines<'a> {
+    type Item = (usize, &'a [u8]);
+
+    ghost next_gives = { YieldsFirstBy (λ p. (p.0, p.1.now)) lines_left };
+
+    ghost remaining = { item_count lines_left };
+
+    fn next(&mut self) -> Option<(usize, &'a [u8])> {
         while !self.rest.is_empty() {
             let (line, after) = first_line(self.rest);
             self.rest = after;

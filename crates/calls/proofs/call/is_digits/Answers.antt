@@ -1,16 +1,10 @@
--- All bytes are digits, or one is none.
-use Rattle.std.proofs.Common.{subst}
-use Rattle.std.specs.Str.Parse.{AllDigits}
-use Rattle.std.proofs.lemmas.List.{take_all}
-use Rattle.std.proofs.lemmas.Int.Digits.{digits_more}
-use Rattle.calls.proofs.Spellings.{no_digit}
+-- Either all bytes pass, or one is no digit.
+use Rattle.std.proofs.Common.{rules}
+use borrow.Author.Tests.{tests}
+use Rattle.std.specs.Int.{IsInRange, IsOutOfRange}
+use Rattle.std.proofs.lemmas.Iterator.{cases_from_all, YieldsList-from_slice}
+use Rattle.calls.proofs.Spellings.{digits_told}
 use Rattle.calls.proofs.call.is_digits.Goals as goal
 
-pub returns-then-not-is_ascii_digit : goal.returns-then-not-is_ascii_digit
-returns-then-not-is_ascii_digit c = no_digit _ _ c.loop-b-test.true c.if-not-is_ascii_digit.ensures.cases
-
-pub loop-b-preserved : goal.loop-b-preserved
-loop-b-preserved c = digits_more 10 _ _ c.loop-b-test.true c.loop-b.invariant c.if-not-is_ascii_digit.ensures.bound
-
 pub returns : goal.returns
-returns c = subst (AllDigits 10) (take_all _ _ c.loop-b-test.false) c.loop-b.invariant
+returns c = digits_told _ _ (cases_from_all _ _ _ (λ x. IsInRange 48 57 x) (λ x. IsOutOfRange 48 57 x) c.all.ensures.ran (YieldsList-from_slice c.args.bytes.now cc) (λ x q k. search (rules, tests)) (λ x q k. search (rules, tests)))

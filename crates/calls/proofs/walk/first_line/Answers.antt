@@ -1,9 +1,7 @@
 -- A line ends at byte 10 or with the input.
-use Rattle.calls.proofs.LinesOf.{cut_line, last_line}
+use Rattle.std.proofs.Common.{refl}
+use Rattle.calls.proofs.LinesOf.{first_cut}
 use Rattle.calls.proofs.walk.first_line.Goals as goal
 
-pub returns-in-Some : goal.returns-in-Some
-returns-in-Some c = let f = cut_line _ _ _ c.in-Some.ensures in record { value = f.0; shorter = λ _. f.1 }
-
-pub returns-in-None : goal.returns-in-None
-returns-in-None c = let f = last_line _ c.in-None.ensures in record { value = f.0; shorter = f.1 }
+pub returns-clause-value : goal.returns-clause-value
+returns-clause-value c = first_cut c.args.bytes.now c.cut_at.result _ c.unwrap_or.result c.cut_at.ensures refl refl c.unwrap_or.ensures

@@ -1,19 +1,17 @@
--- The room's front fills with values, of all digits or of the first 64.
-use Rattle.std.proofs.Common.{◌≡◌, ◌<◌, ◌≤◌, ◌⊎◌, length, inl, inr, arith, rules}
-use native.Mathlib.Nat.{sub-zero}
-use Rattle.calls.proofs.Spellings.{values_more, values_kept}
+-- Each digit is written over by its value.
+use Rattle.std.proofs.Common.{◌<◌, length, get_or, arith}
+use Rattle.std.proofs.lemmas.List.{get_or_default}
+use Rattle.std.proofs.lemmas.List.Edits.{map_over_more}
+use Rattle.calls.specs.Spelling.{digit_value}
+use Rattle.calls.proofs.Spellings.{values_kept}
 use Rattle.calls.proofs.call.CodeDigits.codes.Goals as goal
-use Rattle.calls.proofs.call.CodeDigits.codes.Goals.{then-count-gt-MOST_CODES, else-count-gt-MOST_CODES}
 
-pub loop-i-preserved : goal.loop-i-preserved
-loop-i-preserved c =
-    let xs = c.args.self.now.digits.now in
-    let within : c.loop-i.i < length xs = elim c.if-count-gt-MOST_CODES.branch [ then-count-gt-MOST_CODES w ↦ omega (arith, w.count-is, w.if-count-gt-MOST_CODES.true, c.loop-i-test.true) | else-count-gt-MOST_CODES w ↦ omega (arith, w.count-is, c.loop-i-test.true) ] in
-    let free : c.loop-i.i < length c.loop-i.room = search rules in
-    rw c.saturating_sub.ensures (values_more xs _ _ within free c.loop-i.invariant)
+pub loop-code-preserved : goal.loop-code-preserved
+loop-code-preserved c =
+    let codes = c.loop-code.codes in
+    let i = c.loop-code.code-index in
+    let lt : i < length codes = omega arith in
+    rw c.saturating_sub.ensures (map_over_more digit_value c.copy_from_slice.new.self codes i (get_or codes i 0) c.loop-code-test.true c.loop-code.invariant (get_or_default codes i 0 (get_or codes i 0) lt))
 
 pub returns : goal.returns
-returns c =
-    let xs = c.args.self.now.digits.now in
-    let all : ((c.if-count-gt-MOST_CODES.count ≡ 64) × (64 ≤ length xs)) ⊎ ((c.if-count-gt-MOST_CODES.count ≡ length xs) × (length xs ≤ 64)) = elim c.if-count-gt-MOST_CODES.branch [ then-count-gt-MOST_CODES w ↦ inl (w.count-is, omega (arith, w.if-count-gt-MOST_CODES.true)) | else-count-gt-MOST_CODES w ↦ inr (w.count-is, w.if-count-gt-MOST_CODES.false) ] in
-    rw (sub-zero) (values_kept xs c.loop-i.room _ _ c.loop-i-test.false c.loop-i.auto.i-end all c.loop-i.invariant)
+returns c = values_kept c.args.self.now.digits.now c.copy_from_slice.new.self c.loop-code.codes c.loop-code.code-index (rw c.min-count.ensures at c.copy_from_slice.ensures.after) c.loop-code-test.false c.loop-code.invariant

@@ -1,7 +1,7 @@
 -- The lines that the walk passes are empty, so what is left stays the same.
 use Rattle.std.proofs.Common.{◌≡◌, ◌+◌, length}
 use Rattle.calls.specs.Lines.{lines_of, numbered}
-use Rattle.calls.proofs.lines.Lines.next.Given as goal
+use Rattle.calls.proofs.walk.LinesIterator.next.Given as goal
 
 abbrev pub invariant-loop-line : goal.invariant-loop-line
 invariant-loop-line l = numbered (l.initial.self.passed + 1) (lines_of l.initial.self.rest.now) ≡ numbered (l.self.passed + 1) (lines_of l.self.rest.now)
