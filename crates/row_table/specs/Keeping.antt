@@ -7,7 +7,8 @@ use Rattle.std.proofs.lemmas.List.FromFn.{length-map-range_with_len, get_or-map-
 use Rattle.std.proofs.ByRecursion.{All-map, All-weaker}
 use Rattle.std.proofs.lemmas.List.{length-take, length-drop, with_items_is}
 use Rattle.stores.specs.Bounds.{Sizes, Window, bounds_of}
-use Rattle.stores.specs.Meaning.{Meaning, IsRecord, record_at}
+use Rattle.stores.specs.Meaning.{Meaning, IsRecord, Sound, record_at}
+use Rattle.stores.proofs.Sounds.{sound_from}
 use Rattle.stores.specs.declared.bounds.Bounds.{Bounds}
 use Rattle.stores.proofs.Bytes.{Bytes, bytes_from, from_bytes, bytes_part}
 use Rattle.row_table.specs.Image.{place, slot, laid, image, meaning_of, Kept}
@@ -41,6 +42,11 @@ module _ (b : Bounds) (bytes : List ℕ) (k : Kept b bytes) where
 
   pub wide : AllByRecursion (λ r. length r ≡ b.width) (meaning_of b bytes).records
   wide = All-weaker (IsRecord b.width) (λ r. length r ≡ b.width) (λ r h. h.0) (meaning_of b bytes).records fit
+
+  pub sound : Sound (meaning_of b bytes)
+  sound =
+      let same = sym bounds_are in
+      sound_from (meaning_of b bytes) (subst Sizes same k.sizes) (subst Window same k.window) fit
 
   pub record_is : (run : ℕ) → b.low ≤ run → run ≤ b.high → record_at (meaning_of b bytes) run ≡ slot b.width b.limit bytes run
   record_is run from to = get_or-map-range_with_len (slot b.width b.limit bytes) b.low (b.high + 1 - b.low) (run - b.low) run [] (omega arith) (omega arith)

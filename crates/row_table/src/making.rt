@@ -5,7 +5,6 @@ ghost use Rattle.stores.specs.Making.{making};
 ghost use Rattle.row_table.specs.Image.{image};
 ghost use Rattle.row_table.specs.Table.{means};
 
-use crate::slots::clear;
 use crate::table::RowTable;
 use stores::{Bounds, StoreFault, limit_for};
 
@@ -27,33 +26,32 @@ impl RowTable {
             (λ t. (making width 0 (vec_len memory) ≡ Ok t.bounds.limit) × (means t ≡ empty width t.bounds.limit) × (t.memory.items ≡ replicate (vec_len memory) 0))
             (λ e. (making width 0 (vec_len memory) ≡ Err e.0) × (e.1 ≡ memory)) }
     {
-        match RowTable::limit_in(width, memory.len()) {
-            Err(fault) => Err((fault, memory)),
-            Ok(limit) => {
-                let bounds = Bounds {
-                    width,
-                    limit,
-                    low: 1,
-                    high: 0,
-                };
-                clear(&mut memory, bounds);
-                Ok(RowTable { memory, bounds })
-            }
-        }
+        // `map_err` and `?` would move the memory, which is needed behind them
+        let limit = match RowTable::limit_in(width, memory.len()) {
+            Ok(limit) => limit,
+            Err(fault) => return Err((fault, memory)),
+        };
+        memory.fill(0);
+        let bounds = Bounds {
+            width,
+            limit,
+            low: 1,
+            high: 0,
+        };
+        Ok(RowTable { memory, bounds })
     }
 
     /// Every byte of the memory.
     pub fn memory(&self) -> &[u8]
         ensures value { result.now ≡ image (means self.now) (length self.now.memory.items) }
     {
-        self.memory.as_slice()
+        &self.memory
     }
 
     /// The memory, handed back as it stands.
     pub fn into_memory(self) -> Vec<u8>
         ensures value { result.items ≡ image (means self) (length self.memory.items) }
     {
-        let RowTable { memory, bounds: _ } = self;
-        memory
+        self.memory
     }
 }

@@ -1,8 +1,5 @@
 //! The row table as a type: its fields, and what always holds of them.
-ghost use Rattle.std.specs.Prelude.{◌≡◌, ◌*◌, ◌≤◌, true, length};
-ghost use Rattle.stores.specs.Bounds.{Sizes, Window};
-ghost use Rattle.stores.specs.Bytes.{are_bytes};
-ghost use Rattle.row_table.specs.Image.{meaning_of, image};
+ghost use Rattle.row_table.specs.Image.{Kept};
 
 use stores::Bounds;
 
@@ -13,9 +10,5 @@ use stores::Bounds;
 pub struct RowTable {
     pub(crate) memory: Vec<u8>,
     pub(crate) bounds: Bounds,
-    ghost sizes: { Sizes bounds },
-    ghost window: { Window bounds },
-    ghost inside: { bounds.limit * bounds.width ≤ length memory.items },
-    ghost values: { are_bytes memory.items ≡ true },
-    ghost layout: { memory.items ≡ image (meaning_of bounds memory.items) (length memory.items) },
+    ghost kept: { Kept bounds memory.items },
 }

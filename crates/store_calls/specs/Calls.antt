@@ -4,7 +4,7 @@ use Rattle.stores.specs.declared.fault.StoreFault.{StoreFault}
 use Rattle.store_calls.specs.declared.call.StoreCall.{StoreCall}
 use Rattle.store_calls.specs.declared.call.StoreCall.TheVariants.{Width, Limit, Low, High, Read, Write, Append, Forget}
 use Rattle.store_calls.specs.declared.call.StoreAnswer.{StoreAnswer}
-use Rattle.store_calls.specs.declared.call.StoreAnswer.TheVariants.{Number, Done, Refused}
+use Rattle.store_calls.specs.declared.call.StoreAnswer.TheVariants.{Number, Done}
 use Rattle.stores.specs.Meaning.{Meaning, high_of, record_at, written, appended, forgotten}
 use Rattle.stores.specs.Refusals.{answer, run_fault, record_fault, append_fault}
 
@@ -37,31 +37,20 @@ pub record Setting : Type 0 where
 abbrev pub setting : Meaning → List ℕ → Setting
 setting m room = record { meaning = m; room = room }
 
-abbrev pub answer_of : Result (Unit {0}) StoreFault → StoreAnswer
-answer_of (Ok u) = Done
-answer_of (Err f) = Refused f
+abbrev answer_of : Result (Unit {0}) StoreFault → Result StoreAnswer StoreFault
+answer_of (Ok u) = Ok Done
+answer_of (Err f) = Err f
 
--- the result of a call that can be refused
-abbrev result : Setting → Asked → Result (Unit {0}) StoreFault
-result s ask_width = Ok tt
-result s ask_limit = Ok tt
-result s ask_low = Ok tt
-result s ask_high = Ok tt
-result s (ask_read run) = answer (record_fault s.meaning run (length s.room))
-result s (ask_write run rec) = answer (record_fault s.meaning run (length rec))
-result s (ask_append rec) = answer (append_fault s.meaning (length rec))
-result s (ask_forget run) = answer (run_fault s.meaning run)
-
--- what is answered to a call
-abbrev pub answered : Setting → Asked → StoreAnswer
-answered s ask_width = Number s.meaning.width
-answered s ask_limit = Number s.meaning.limit
-answered s ask_low = Number s.meaning.low
-answered s ask_high = Number (high_of s.meaning)
-answered s (ask_read run) = answer_of (result s (ask_read run))
-answered s (ask_write run rec) = answer_of (result s (ask_write run rec))
-answered s (ask_append rec) = answer_of (result s (ask_append rec))
-answered s (ask_forget run) = answer_of (result s (ask_forget run))
+-- what is answered to a call, or why it is refused
+abbrev pub answered : Setting → Asked → Result StoreAnswer StoreFault
+answered s ask_width = Ok (Number s.meaning.width)
+answered s ask_limit = Ok (Number s.meaning.limit)
+answered s ask_low = Ok (Number s.meaning.low)
+answered s ask_high = Ok (Number (high_of s.meaning))
+answered s (ask_read run) = answer_of (answer (record_fault s.meaning run (length s.room)))
+answered s (ask_write run rec) = answer_of (answer (record_fault s.meaning run (length rec)))
+answered s (ask_append rec) = answer_of (answer (append_fault s.meaning (length rec)))
+answered s (ask_forget run) = answer_of (answer (run_fault s.meaning run))
 
 -- what an accepted call makes of a store and of the room
 abbrev changed : Setting → Asked → Setting
@@ -76,13 +65,13 @@ changed s (ask_forget run) = setting (forgotten s.meaning run) s.room
 
 -- how they stand after a call; a refusal changes nothing
 abbrev pub after_call : Setting → Asked → Setting
-after_call s c = cond (is_ok (result s c)) (changed s c) s
+after_call s c = cond (is_ok (answered s c)) (changed s c) s
 
 abbrev pub after_calls : Setting → List Asked → Setting
 after_calls s [] = s
 after_calls s (c ∷ cs) = after_calls (after_call s c) cs
 
 -- each answer, and the room behind it
-abbrev pub answers : Setting → List Asked → List (StoreAnswer × List ℕ)
+abbrev pub answers : Setting → List Asked → List (Result StoreAnswer StoreFault × List ℕ)
 answers s [] = []
 answers s (c ∷ cs) = (answered s c, (after_call s c).room) ∷ answers (after_call s c) cs

@@ -1,6 +1,4 @@
 //! The calls of a store, and its answers, as values.
-use stores::StoreFault;
-
 /// A call of a store. What is read goes to a room that is handed over beside it.
 #[derive(Clone, Copy)]
 pub enum StoreCall<'a> {
@@ -14,10 +12,9 @@ pub enum StoreCall<'a> {
     Forget(u32),
 }
 
-/// What a store answers to a call.
+/// What a store answers to a call that it does not refuse.
 #[derive(Clone, Copy, PartialEq, Eq, Debug)]
 pub enum StoreAnswer {
     Number(usize),
     Done,
-    Refused(StoreFault),
 }

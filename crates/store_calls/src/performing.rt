@@ -1,41 +1,30 @@
 //! A store's calls by value, one at a time and in lists.
 ghost use Rattle.std.specs.Prelude.{◌≡◌, true, map, Decides};
-ghost use Rattle.store_calls.specs.Calls.{asked, setting, answer_of, answered, after_call, after_calls, answers};
+ghost use Rattle.store_calls.specs.Calls.{asked, setting, answered, after_call, after_calls, answers};
 
 use crate::call::{StoreAnswer, StoreCall};
 use stores::{Store, StoreFault};
 
-fn answer_of(r: Result<(), StoreFault>) -> StoreAnswer
-    ensures value { result ≡ answer_of r }
-{
-    match r {
-        Ok(()) => StoreAnswer::Done,
-        Err(fault) => StoreAnswer::Refused(fault),
-    }
-}
-
 /// Performs a call; what it reads goes to `room`.
-pub fn perform<S: Store>(store: &mut S, call: StoreCall<'_>, room: &mut [u8]) -> StoreAnswer
+pub fn perform<S: Store>(
+    store: &mut S,
+    call: StoreCall<'_>,
+    room: &mut [u8],
+) -> Result<StoreAnswer, StoreFault>
     ensures value { result ≡ answered (setting (S.Store.meaning store.old) room.old) (asked call.entry) }
     ensures after { setting (S.Store.meaning store.new) room.new ≡ after_call (setting (S.Store.meaning store.old) room.old) (asked call.entry) }
     ensures same { S.Store.size store.new ≡ S.Store.size store.old }
 {
     match call {
-        StoreCall::Width => StoreAnswer::Number(store.width()),
-        StoreCall::Limit => StoreAnswer::Number(store.limit()),
-        StoreCall::Low => StoreAnswer::Number(store.low() as usize),
-        StoreCall::High => StoreAnswer::Number(store.high() as usize),
-        StoreCall::Read(run) => answer_of(store.read(run, room)),
-        StoreCall::Write(run, rec) => answer_of(store.write(run, rec)),
-        StoreCall::Append(rec) => answer_of(store.append(rec)),
-        StoreCall::Forget(run) => answer_of(store.forget(run)),
+        StoreCall::Width => Ok(StoreAnswer::Number(store.width())),
+        StoreCall::Limit => Ok(StoreAnswer::Number(store.limit())),
+        StoreCall::Low => Ok(StoreAnswer::Number(store.low() as usize)),
+        StoreCall::High => Ok(StoreAnswer::Number(store.high() as usize)),
+        StoreCall::Read(run) => store.read(run, room).map(|()| StoreAnswer::Done),
+        StoreCall::Write(run, rec) => store.write(run, rec).map(|()| StoreAnswer::Done),
+        StoreCall::Append(rec) => store.append(rec).map(|()| StoreAnswer::Done),
+        StoreCall::Forget(run) => store.forget(run).map(|()| StoreAnswer::Done),
     }
-}
-
-fn equal(x: StoreAnswer, y: StoreAnswer, a: &[u8], b: &[u8]) -> bool
-    ensures value { Decides result ((x ≡ y) × (a.now ≡ b.now)) }
-{
-    x == y && a == b
 }
 
 /// Performs the calls on both stores, each with a room of its own; whether all answers, and the rooms after each, were alike.
@@ -57,7 +46,7 @@ pub fn agree<S: Store, T: Store>(
     for call in calls {
         let x = perform(one, *call, a);
         let y = perform(other, *call, b);
-        alike &= equal(x, y, a, b);
+        alike &= (x, &*a) == (y, &*b);
     }
     alike
 }

@@ -20,7 +20,7 @@ impl Bounds {
         ensures value { (m : Meaning) → bounds_of m ≡ self → result ≡ answer (run_fault m run) }
         ensures made { OnOk result ((self.low ≤ run) × (run ≤ self.high)) }
     {
-        if run < self.low || run > self.high {
+        if !(self.low..=self.high).contains(&run) {
             return Err(StoreFault::Run(run));
         }
         Ok(())

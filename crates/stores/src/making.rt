@@ -10,7 +10,7 @@ use crate::fault::StoreFault;
 pub fn limit_for(width: usize, head: u8, size: usize) -> Result<usize, StoreFault>
     ensures value { result ≡ making width head size }
 {
-    if width < 4 || width > 289 {
+    if !(4..=289).contains(&width) {
         return Err(StoreFault::Unfit);
     }
     let limit = (size / (width + head as usize)).min(4096);

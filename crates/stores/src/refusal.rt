@@ -5,12 +5,12 @@ ghost use Rattle.stores.specs.Refusals.{refusal_of};
 use crate::fault::StoreFault;
 use refusals::{Layer, Refusal};
 
-impl StoreFault {
-    /// The row of the refusal table that this fault is, with its place.
-    pub fn refusal(self) -> Refusal
-        ensures value { result ≡ refusal_of self }
-    {
-        let (number, place) = match self {
+impl From<StoreFault> for Refusal {
+    ghost from_gives = { λ f r. r ≡ refusal_of f };
+
+    /// The row of the refusal table that a fault is, with its place.
+    fn from(f: StoreFault) -> Refusal {
+        let (number, place) = match f {
             StoreFault::Unfit => (12, 0),
             StoreFault::Length(len) => (31, len),
             StoreFault::Run(run) => (30, run as usize),
@@ -22,13 +22,5 @@ impl StoreFault {
             layer: Layer::Store,
             place,
         }
-    }
-}
-
-impl From<StoreFault> for Refusal {
-    ghost from_gives = { λ f r. r ≡ refusal_of f };
-
-    fn from(f: StoreFault) -> Refusal {
-        f.refusal()
     }
 }

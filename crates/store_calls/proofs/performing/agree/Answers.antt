@@ -1,8 +1,8 @@
-use Rattle.std.proofs.Common.{◌&&◌, map, get_or, sym, refl, ap, ◌∙◌, subst}
+use Rattle.std.proofs.Common.{◌&&◌, map, get_or, sym, refl, ap, ◌∙◌, subst, rules}
 use Rattle.std.proofs.lemmas.List.{take_all, map_more}
 use Rattle.store_calls.specs.declared.call.StoreCall.TheVariants.{Width}
 use Rattle.store_calls.specs.Calls.{Setting, asked, setting}
-use Rattle.store_calls.proofs.Calls.{Performed, performed_more, performed_alike}
+use Rattle.store_calls.proofs.Calls.{Performed, performed_more, performed_alike, pair_decides}
 use Rattle.store_calls.proofs.performing.agree.Goals as goal
 
 pub loop-call-init : goal.loop-call-init
@@ -19,8 +19,8 @@ loop-call-preserved g c =
     let t = setting (g.T.Store.meaning c.args.other.now) c.args.b.now in
     let s' = setting (g.S.Store.meaning c.perform-x.new.store) c.perform-x.new.room in
     let t' = setting (g.T.Store.meaning c.perform-y.new.store) c.perform-y.new.room in (
-      subst (λ cs. Performed s t cs s' t' (c.loop-call.alike && c.equal-alike.result)) (sym (map_more asked calls i Width c.loop-call-test.true))
-          (performed_more v.0 (asked (get_or calls i Width)) c.perform-x.result c.perform-y.result s' t' c.equal-alike.result x.value y.value x.after y.after c.equal-alike.ensures.value),
+      subst (λ cs. Performed s t cs s' t' (c.loop-call.alike && c.eq-alike.result)) (sym (map_more asked calls i Width c.loop-call-test.true))
+          (performed_more v.0 (asked (get_or calls i Width)) c.perform-x.result c.perform-y.result s' t' c.eq-alike.result x.value y.value x.after y.after (pair_decides (λ a b. search rules) (λ a b. search rules) _ _ _ _ c.eq-alike.result c.eq-alike.ensures)),
       x.same ∙ v.1,
       y.same ∙ v.2,
     )

@@ -1,9 +1,0 @@
-use Rattle.std.proofs.Common.{refl}
-use Rattle.std.proofs.lemmas.Result.{err_from_is_err_and}
-use Rattle.row_table.specs.Table.{means}
-use Rattle.row_table.proofs.store.RowTableStore.write.Goals as goal
-
-pub returns-in_err-check_record : goal.returns-in_err-check_record
-returns-in_err-check_record c =
-    let p = err_from_is_err_and c.from_residual.result c.from_residual.ensures.1 in
-    rw (p.1, p.2) record { value = c.in_err-check_record.ensures.value (means c.args.self.now) c.bounds-b.ensures.means; after = refl; same = refl }
