@@ -1,5 +1,5 @@
 -- One call more of a list of calls. Assumes nothing.
-use Rattle.std.proofs.Common.{◌≡◌, ℕ, ◌+◌, ◌<◌, List, [], ◌∷◌, ◌++◌, map, length, get_or, drop, sym, ap, ◌∙◌, append_assoc}
+use Rattle.std.proofs.Common.{◌≡◌, ℕ, ◌+◌, ◌<◌, List, [], ◌∷◌, ◌++◌, map, length, get_or, drop, Result, sym, ap, ◌∙◌, append_assoc}
 use Rattle.std.proofs.lemmas.List.{drop_more}
 use Rattle.scales.specs.Algebra.{Algebra}
 use Rattle.lines.specs.declared.policy.Policy.{Policy}
@@ -8,6 +8,7 @@ use Rattle.logic.specs.History.{History}
 use Rattle.stores.specs.Meaning.{Meaning}
 use Rattle.meaning.specs.declared.answer.Answer.{Answer}
 use Rattle.meaning.specs.declared.call.Call.{Call}
+use Rattle.meaning.specs.declared.fault.BookFault.{BookFault}
 use Rattle.meaning.specs.Kept.{meaning}
 use Rattle.meaning.specs.Calls.{Asked, asked, answer, next, answers, after}
 use Rattle.book.specs.Books as book
@@ -15,7 +16,7 @@ use Rattle.book.specs.Books.{Every, Keeps}
 
 module _ (S : Algebra) (p : Policy) (limit : ℕ) where
   -- what a call gives, of a book whose policy and limit have other names
-  pub performed : (p' : Policy) (m m₂ : Meaning) (k : History) (x : Asked) (a : Answer) → p' ≡ p → m ≡ meaning S (lines_of p) p.atoms limit k →
+  pub performed : (p' : Policy) (m m₂ : Meaning) (k : History) (x : Asked) (a : Result Answer BookFault) → p' ≡ p → m ≡ meaning S (lines_of p) p.atoms limit k →
       Every S p' m (λ h. a ≡ book.answer S p' m h x) → Every S p' m (λ h. m₂ ≡ book.then S p' m h x) →
       (a ≡ answer S (lines_of p) p.atoms limit k x) × (m₂ ≡ meaning S (lines_of p) p.atoms limit (next S (lines_of p) p.atoms limit k x))
   performed p' m m₂ k x a d q f g =
@@ -26,7 +27,7 @@ module _ (S : Algebra) (p : Policy) (limit : ℕ) where
       )
 
   -- the answers so far with those to come are those of the whole list
-  pub answered_more : (calls : List Call) (i : ℕ) (d : Call) (items items₂ whole : List Answer) (a : Answer) (k last : History) → i < length calls →
+  pub answered_more : (calls : List Call) (i : ℕ) (d : Call) (items items₂ whole : List (Result Answer BookFault)) (a : Result Answer BookFault) (k last : History) → i < length calls →
       a ≡ answer S (lines_of p) p.atoms limit k (asked (get_or calls i d)) → items₂ ≡ items ++ a ∷ [] →
       items ++ answers S (lines_of p) p.atoms limit k (map asked (drop i calls)) ≡ whole →
       after S (lines_of p) p.atoms limit k (map asked (drop i calls)) ≡ last →

@@ -42,14 +42,14 @@ module _ (S : Algebra) (p : Policy) (m : Meaning) (h : History) where
   truth_given run line = call.truth_given S (lines_of p) p.atoms m.limit h run line
 
   -- the answer to any call, and the store's meaning after it
-  abbrev pub answer : Asked → Answer
+  abbrev pub answer : Asked → Result Answer BookFault
   answer c = call.answer S (lines_of p) p.atoms m.limit h c
 
   abbrev pub then : Asked → Meaning
   then c = meaning S (lines_of p) p.atoms m.limit (call.next S (lines_of p) p.atoms m.limit h c)
 
   -- the answers to a list of calls, and the store's meaning after them
-  abbrev pub answers : List Asked → List Answer
+  abbrev pub answers : List Asked → List (Result Answer BookFault)
   answers cs = call.answers S (lines_of p) p.atoms m.limit h cs
 
   abbrev pub after : List Asked → Meaning

@@ -2,8 +2,7 @@
 ghost use Rattle.std.specs.Prelude.{◌≡◌, ◌+◌, ◌≤◌, List, [], ◌++◌, map, length, IfOk, None, vec_len, vec_capacity, MatchResult};
 ghost use Rattle.clearness.specs.Clearness.{ClearerCalls, ClearerAnswers};
 ghost use Rattle.stores.specs.Meaning.{Meaning};
-ghost use Rattle.meaning.specs.Calls.{Asked, answer_by, asked};
-ghost use Rattle.meaning.specs.declared.answer.Answer.TheVariants.{Started as to_start, Changed as to_report, Would as to_preview, Closed as to_close, Verdict as to_verdict, Truth as to_truth};
+ghost use Rattle.meaning.specs.Calls.{Asked, asked};
 ghost use Rattle.book.specs.Books.{Every, opening_refusal, answer, then, answers, after};
 ghost use Rattle.book.specs.Opened.{Refuses};
 
@@ -15,80 +14,32 @@ use scales::Scale;
 use std::alloc::Global;
 use stores::Store;
 
-fn to_start(r: Result<u32, BookFault>) -> Answer
-    ensures value { result ≡ answer_by to_start r }
-{
-    match r {
-        Ok(run) => Answer::Started(run),
-        Err(fault) => Answer::Refused(fault),
-    }
-}
-
-fn to_report(r: Result<(u32, u8), BookFault>) -> Answer
-    ensures value { result ≡ answer_by (λ p. to_report p.0 p.1) r }
-{
-    match r {
-        Ok((count, truth)) => Answer::Changed(count, truth),
-        Err(fault) => Answer::Refused(fault),
-    }
-}
-
-fn to_preview(r: Result<u8, BookFault>) -> Answer
-    ensures value { result ≡ answer_by to_preview r }
-{
-    match r {
-        Ok(truth) => Answer::Would(truth),
-        Err(fault) => Answer::Refused(fault),
-    }
-}
-
-fn to_close(r: Result<u32, BookFault>) -> Answer
-    ensures value { result ≡ answer_by to_close r }
-{
-    match r {
-        Ok(gone) => Answer::Closed(gone),
-        Err(fault) => Answer::Refused(fault),
-    }
-}
-
-fn to_verdict(r: Result<u8, BookFault>) -> Answer
-    ensures value { result ≡ answer_by to_verdict r }
-{
-    match r {
-        Ok(truth) => Answer::Verdict(truth),
-        Err(fault) => Answer::Refused(fault),
-    }
-}
-
-fn to_truth(r: Result<u8, BookFault>) -> Answer
-    ensures value { result ≡ answer_by to_truth r }
-{
-    match r {
-        Ok(truth) => Answer::Truth(truth),
-        Err(fault) => Answer::Refused(fault),
-    }
-}
-
 impl<K: Scale, S: Store> Book<K, S> {
     /// Performs one call: the step that `perform` is made of.
-    pub fn answer(&mut self, call: Call<'_>) -> Answer
+    pub fn answer(&mut self, call: Call<'_>) -> Result<Answer, BookFault>
         ensures value { Every K.Scale.algebra self.old.policy (S.Store.meaning self.old.store) (λ h. result ≡ answer K.Scale.algebra self.old.policy (S.Store.meaning self.old.store) h (asked call.entry)) }
         ensures after { Every K.Scale.algebra self.old.policy (S.Store.meaning self.old.store) (λ h. S.Store.meaning self.new.store ≡ then K.Scale.algebra self.old.policy (S.Store.meaning self.old.store) h (asked call.entry)) }
         ensures same { (self.new.policy ≡ self.old.policy) × (self.new.scale ≡ self.old.scale) × (S.Store.size self.new.store ≡ S.Store.size self.old.store) }
     {
         match call {
-            Call::Start(codes) => to_start(self.start(codes)),
-            Call::Report(run, codes) => to_report(self.report(run, codes)),
-            Call::Preview(run, codes) => to_preview(self.preview(run, codes)),
-            Call::Close(run) => to_close(self.close(run)),
-            Call::Verdict => to_verdict(self.verdict()),
-            Call::Truth(run, line) => to_truth(self.truth(run, line)),
+            Call::Start(codes) => self.start(codes).map(Answer::Started),
+            Call::Report(run, codes) => self
+                .report(run, codes)
+                .map(|(count, truth)| Answer::Changed(count, truth)),
+            Call::Preview(run, codes) => self.preview(run, codes).map(Answer::Would),
+            Call::Close(run) => self.close(run).map(Answer::Closed),
+            Call::Verdict => self.verdict().map(Answer::Verdict),
+            Call::Truth(run, line) => self.truth(run, line).map(Answer::Truth),
         }
     }
 }
 
 /// Performs the calls one by one, each building on the last; the answers go to `out`, which has room for them.
-fn answer_each<K: Scale, S: Store>(book: &mut Book<K, S>, calls: &[Call<'_>], out: &mut Vec<Answer>)
+fn answer_each<K: Scale, S: Store>(
+    book: &mut Book<K, S>,
+    calls: &[Call<'_>],
+    out: &mut Vec<Result<Answer, BookFault>>,
+)
     requires { vec_len out.old + length calls.now ≤ vec_capacity out.old }
     ensures value { Every K.Scale.algebra book.old.policy (S.Store.meaning book.old.store) (λ h. out.new.items ≡ out.old.items ++ answers K.Scale.algebra book.old.policy (S.Store.meaning book.old.store) h (map asked calls.now)) }
     ensures after { Every K.Scale.algebra book.old.policy (S.Store.meaning book.old.store) (λ h. S.Store.meaning book.new.store ≡ after K.Scale.algebra book.old.policy (S.Store.meaning book.old.store) h (map asked calls.now)) }
@@ -103,7 +54,7 @@ fn answer_each<K: Scale, S: Store>(book: &mut Book<K, S>, calls: &[Call<'_>], ou
 /// What a list of calls gives: the answers, one a call, and the scale and the store as they stand then.
 #[derive(Drop)]
 pub struct Performed<K, S> {
-    pub answers: Vec<Answer>,
+    pub answers: Vec<Result<Answer, BookFault>>,
     pub scale: K,
     pub store: S,
 }

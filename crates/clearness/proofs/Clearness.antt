@@ -1,5 +1,5 @@
 -- Calls with clearer codes get clearer answers. Assumes nothing.
-use Rattle.std.proofs.Common.{◌≡◌, ℕ, ◌-◌, true, List, [], ◌∷◌, get_or, Some, None, Option, refl, subst, ap₂}
+use Rattle.std.proofs.Common.{◌≡◌, ℕ, ◌-◌, true, List, [], ◌∷◌, get_or, Some, None, Option, Ok, refl, subst, ap₂}
 use mathlib.Core.List.Forall₂
 use Rattle.scales.specs.Algebra.{Algebra, Laws}
 use Rattle.scales.proofs.Ands.{clear_stays_yes, clear_stays_no}
@@ -20,11 +20,11 @@ use Rattle.clearness.proofs.Refused as refused
 
 module _ (S : Algebra) where
   -- one refusal in both, or an accepted call in both
-  either : {A : Type 0} (f : A → Answer) (o p : Option BookFault) (x y : A) → o ≡ p → (o ≡ None → ClearerAnswer S (f x) (f y)) →
+  either : {A : Type 0} (f : A → Answer) (o p : Option BookFault) (x y : A) → o ≡ p → (o ≡ None → ClearerAnswer S (Ok (f x)) (Ok (f y))) →
       ClearerAnswer S (answer_by f (unless o x)) (answer_by f (unless p y))
   either {A} f o p x y e k = subst (λ r. ClearerAnswer S (answer_by f (unless o x)) (answer_by f (unless r y))) e (by o k)
     where
-      by : (r : Option BookFault) → (r ≡ None → ClearerAnswer S (f x) (f y)) → ClearerAnswer S (answer_by f (unless r x)) (answer_by f (unless r y))
+      by : (r : Option BookFault) → (r ≡ None → ClearerAnswer S (Ok (f x)) (Ok (f y))) → ClearerAnswer S (answer_by f (unless r x)) (answer_by f (unless r y))
       by None a = a refl
       by (Some fault) a = same_refusal
 
@@ -36,11 +36,11 @@ module _ (S : Algebra) where
       by None t = t refl
       by (Some fault) t = c
 
-  one_start : (m n : ℕ) → m ≡ n → ClearerAnswer S (Started m) (Started n)
-  one_start m n e = subst (λ k. ClearerAnswer S (Started m) (Started k)) e same_start
+  one_start : (m n : ℕ) → m ≡ n → ClearerAnswer S (Ok (Started m)) (Ok (Started n))
+  one_start m n e = subst (λ k. ClearerAnswer S (Ok (Started m)) (Ok (Started k))) e same_start
 
-  one_close : (m n : ℕ) → m ≡ n → ClearerAnswer S (Closed m) (Closed n)
-  one_close m n e = subst (λ k. ClearerAnswer S (Closed m) (Closed k)) e same_close
+  one_close : (m n : ℕ) → m ≡ n → ClearerAnswer S (Ok (Closed m)) (Ok (Closed n))
+  one_close m n e = subst (λ k. ClearerAnswer S (Ok (Closed m)) (Ok (Closed k))) e same_close
 
   module _ (L : Laws S) where
     clearer : (a b : ℕ) → S.clear b a ≡ true → ClearerTruth S a b

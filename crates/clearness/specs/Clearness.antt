@@ -1,13 +1,13 @@
 -- Two lists of calls that differ in codes alone, and how their answers compare: in every relation here the second is as
 -- clear as the first. Laws of the definitions.
-use Rattle.std.specs.Prelude.{◌≡◌, ℕ, true, ◌⊎◌, List, []}
+use Rattle.std.specs.Prelude.{◌≡◌, ℕ, true, ◌⊎◌, List, [], Ok, Err, Result}
 use mathlib.Core.List.{Forall₂}
 use Rattle.scales.specs.Algebra.{Algebra, Laws}
 use Rattle.lines.specs.declared.line.Line.{Line}
 use Rattle.logic.specs.History.{History}
 use Rattle.logic.specs.Clear.{Clearer}
 use Rattle.meaning.specs.declared.answer.Answer.{Answer}
-use Rattle.meaning.specs.declared.answer.Answer.TheVariants.{Started, Changed, Would, Closed, Verdict, Truth, Refused}
+use Rattle.meaning.specs.declared.answer.Answer.TheVariants.{Started, Changed, Would, Closed, Verdict, Truth}
 use Rattle.meaning.specs.declared.fault.BookFault.{BookFault}
 use Rattle.meaning.specs.Calls.{Asked, ask_start, ask_report, ask_preview, ask_close, ask_verdict, ask_truth, answers, after}
 
@@ -40,17 +40,17 @@ pub record ClearerTruth (S : Algebra) (first second : ℕ) : Type 0 where
 
 -- The same refusal, or both accepted: the same run started, as many runs gone, a truth or verdict that is as clear. The
 -- count of a report may be another.
-pub data ClearerAnswer (S : Algebra) : Answer → Answer → Type 0 where
-  same_refusal : {fault : BookFault} → ClearerAnswer S (Refused fault) (Refused fault)
-  same_start : {run : ℕ} → ClearerAnswer S (Started run) (Started run)
-  same_close : {gone : ℕ} → ClearerAnswer S (Closed gone) (Closed gone)
-  clearer_report : {count other v w : ℕ} → ClearerTruth S v w → ClearerAnswer S (Changed count v) (Changed other w)
-  clearer_preview : {v w : ℕ} → ClearerTruth S v w → ClearerAnswer S (Would v) (Would w)
-  clearer_verdict : {v w : ℕ} → ClearerTruth S v w → ClearerAnswer S (Verdict v) (Verdict w)
-  clearer_line : {v w : ℕ} → ClearerTruth S v w → ClearerAnswer S (Truth v) (Truth w)
+pub data ClearerAnswer (S : Algebra) : Result Answer BookFault → Result Answer BookFault → Type 0 where
+  same_refusal : {fault : BookFault} → ClearerAnswer S (Err fault) (Err fault)
+  same_start : {run : ℕ} → ClearerAnswer S (Ok (Started run)) (Ok (Started run))
+  same_close : {gone : ℕ} → ClearerAnswer S (Ok (Closed gone)) (Ok (Closed gone))
+  clearer_report : {count other v w : ℕ} → ClearerTruth S v w → ClearerAnswer S (Ok (Changed count v)) (Ok (Changed other w))
+  clearer_preview : {v w : ℕ} → ClearerTruth S v w → ClearerAnswer S (Ok (Would v)) (Ok (Would w))
+  clearer_verdict : {v w : ℕ} → ClearerTruth S v w → ClearerAnswer S (Ok (Verdict v)) (Ok (Verdict w))
+  clearer_line : {v w : ℕ} → ClearerTruth S v w → ClearerAnswer S (Ok (Truth v)) (Ok (Truth w))
 
 -- as many answers, one by one
-abbrev pub ClearerAnswers : Algebra → List Answer → List Answer → Type 0
+abbrev pub ClearerAnswers : Algebra → List (Result Answer BookFault) → List (Result Answer BookFault) → Type 0
 ClearerAnswers S = Forall₂ (ClearerAnswer S)
 
 -- Calls with clearer codes get clearer answers: from the opening, whatever the policy and the limit.

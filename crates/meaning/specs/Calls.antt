@@ -1,6 +1,7 @@
 -- Lists of calls to a book, and what each is answered: a refusal by the table, or the result by the logic over the
 -- whole history of accepted events. Over lists of numbers, so that worked cases compute. Assumes nothing.
 use Rattle.std.specs.Prelude.{ℕ, ◌+◌, ◌-◌, List, [], ◌∷◌, Some, None, Ok, Err, Option, Result, slice_index_or}
+use Rattle.std.specs.Result.{result_map_both}
 use Rattle.scales.specs.Algebra.{Algebra}
 use Rattle.lines.specs.declared.line.Line.{Line}
 use Rattle.lines.specs.Forms.{no}
@@ -9,7 +10,7 @@ use Rattle.logic.specs.History.{Event, History, start, report, close, high}
 use Rattle.logic.specs.Truth.{truth}
 use Rattle.logic.specs.Rows.{verdict, reach}
 use Rattle.meaning.specs.declared.answer.Answer.{Answer}
-use Rattle.meaning.specs.declared.answer.Answer.TheVariants.{Started, Changed, Would, Closed, Verdict, Truth, Refused}
+use Rattle.meaning.specs.declared.answer.Answer.TheVariants.{Started, Changed, Would, Closed, Verdict, Truth}
 use Rattle.meaning.specs.declared.call.Call.{Call}
 use Rattle.meaning.specs.declared.call.Call.TheVariants as call
 use Rattle.meaning.specs.declared.fault.BookFault.{BookFault}
@@ -43,10 +44,9 @@ abbrev pub added : Option BookFault → Event → History → History
 added None e h = e ∷ h
 added (Some f) e h = h
 
--- a result as an answer
-abbrev pub answer_by : {A : Type 0} → (A → Answer) → Result A BookFault → Answer
-answer_by f (Ok x) = f x
-answer_by f (Err fault) = Refused fault
+-- a result as an answer; a refusal stays
+abbrev pub answer_by : {A : Type 0} → (A → Answer) → Result A BookFault → Result Answer BookFault
+answer_by f r = result_map_both f (λ fault. fault) r
 
 -- the truth of a line of the table, by its number
 abbrev pub line_truth : Algebra → List Line → History → ℕ → ℕ → ℕ
@@ -74,7 +74,7 @@ module _ (S : Algebra) (ls : List Line) (atoms limit : ℕ) where
   truth_given h run line = unless (truth_refusal ls h run line) (line_truth S ls h run line)
 
   -- what a call is answered after the history h
-  abbrev pub answer : History → Asked → Answer
+  abbrev pub answer : History → Asked → Result Answer BookFault
   answer h (ask_start q) = answer_by Started (started h q)
   answer h (ask_report run q) = answer_by (λ p. Changed p.0 p.1) (reported h run q)
   answer h (ask_preview run q) = answer_by Would (previewed h run q)
@@ -92,7 +92,7 @@ module _ (S : Algebra) (ls : List Line) (atoms limit : ℕ) where
   next h (ask_truth run line) = h
 
   -- what a list of calls is answered, each building on the last
-  abbrev pub answers : History → List Asked → List Answer
+  abbrev pub answers : History → List Asked → List (Result Answer BookFault)
   answers h [] = []
   answers h (c ∷ cs) = answer h c ∷ answers (next h c) cs
 

@@ -1,10 +1,11 @@
 -- Worked cases of whole lists of calls: what the definitions answer, computed. Assumes nothing.
-use Rattle.std.specs.Prelude.{◌≡◌, List, [], ◌∷◌}
+use Rattle.std.specs.Prelude.{◌≡◌, List, [], ◌∷◌, Ok, Err, Result}
 use Rattle.scales.specs.Scales.{plain}
 use Rattle.stores.specs.declared.fault.StoreFault.TheVariants.{Full}
 use Rattle.logic.specs.Worked.{policy_a, policy_b}
 use Rattle.meaning.specs.declared.answer.Answer.{Answer}
-use Rattle.meaning.specs.declared.answer.Answer.TheVariants.{Started, Changed, Would, Closed, Verdict, Truth, Refused}
+use Rattle.meaning.specs.declared.answer.Answer.TheVariants.{Started, Changed, Would, Closed, Verdict, Truth}
+use Rattle.meaning.specs.declared.fault.BookFault.{BookFault}
 use Rattle.meaning.specs.declared.fault.BookFault.TheVariants.{Count, Code, NoRun, Gone, NoLine, NoRuns, Store}
 use Rattle.meaning.specs.declared.fault.BookFault.TheVariants as fault
 use Rattle.meaning.specs.Calls.{Asked, ask_start, ask_report, ask_preview, ask_close, ask_verdict, ask_truth, answers}
@@ -15,26 +16,26 @@ calls_a =
     ask_verdict ∷ ask_start (0 ∷ 0 ∷ []) ∷ ask_start (1 ∷ 0 ∷ []) ∷ ask_report 1 (0 ∷ 1 ∷ []) ∷ ask_report 1 (1 ∷ 0 ∷ []) ∷ ask_preview 1 (0 ∷ 0 ∷ [])
     ∷ ask_report 3 (0 ∷ 0 ∷ []) ∷ ask_report 1 (0 ∷ 0 ∷ []) ∷ ask_close 1 ∷ ask_verdict ∷ ask_start (0 ∷ []) ∷ ask_start (0 ∷ 7 ∷ []) ∷ ask_report 1 (0 ∷ []) ∷ []
 
-abbrev answers_a : List Answer
+abbrev answers_a : List (Result Answer BookFault)
 answers_a =
-    Refused NoRuns ∷ Started 1 ∷ Started 2 ∷ Changed 1 1 ∷ Changed 2 0 ∷ Would 1
-    ∷ Refused (NoRun 3) ∷ Changed 2 1 ∷ Closed 0 ∷ Verdict 1 ∷ Refused (Count 1) ∷ Refused (Code 1) ∷ Refused (fault.Closed 1) ∷ []
+    Err NoRuns ∷ Ok (Started 1) ∷ Ok (Started 2) ∷ Ok (Changed 1 1) ∷ Ok (Changed 2 0) ∷ Ok (Would 1)
+    ∷ Err (NoRun 3) ∷ Ok (Changed 2 1) ∷ Ok (Closed 0) ∷ Ok (Verdict 1) ∷ Err (Count 1) ∷ Err (Code 1) ∷ Err (fault.Closed 1) ∷ []
 
 -- policy B: a run's earlier row has what other runs' reports had moved by then
 abbrev calls_b : List Asked
 calls_b = ask_start (0 ∷ []) ∷ ask_start (0 ∷ []) ∷ ask_report 1 (1 ∷ []) ∷ ask_report 2 (0 ∷ []) ∷ ask_report 1 (0 ∷ []) ∷ ask_truth 2 1 ∷ ask_truth 2 3 ∷ []
 
-abbrev answers_b : List Answer
-answers_b = Started 1 ∷ Started 2 ∷ Changed 2 0 ∷ Changed 1 1 ∷ Changed 2 1 ∷ Truth 0 ∷ Refused (NoLine 3) ∷ []
+abbrev answers_b : List (Result Answer BookFault)
+answers_b = Ok (Started 1) ∷ Ok (Started 2) ∷ Ok (Changed 2 0) ∷ Ok (Changed 1 1) ∷ Ok (Changed 2 1) ∷ Ok (Truth 0) ∷ Err (NoLine 3) ∷ []
 
 -- a store of limit 2: a close makes room once the runs below are gone
 abbrev calls_full : List Asked
 calls_full =
     ask_start (0 ∷ []) ∷ ask_start (0 ∷ []) ∷ ask_start (0 ∷ []) ∷ ask_close 1 ∷ ask_start (0 ∷ []) ∷ ask_close 2 ∷ ask_start (0 ∷ []) ∷ ask_truth 1 0 ∷ ask_truth 0 0 ∷ []
 
-abbrev answers_full : List Answer
+abbrev answers_full : List (Result Answer BookFault)
 answers_full =
-    Started 1 ∷ Started 2 ∷ Refused (Store (Full 2)) ∷ Closed 0 ∷ Refused (Store (Full 2)) ∷ Closed 1 ∷ Started 3 ∷ Refused (Gone 1) ∷ Refused (NoRun 0) ∷ []
+    Ok (Started 1) ∷ Ok (Started 2) ∷ Err (Store (Full 2)) ∷ Ok (Closed 0) ∷ Err (Store (Full 2)) ∷ Ok (Closed 1) ∷ Ok (Started 3) ∷ Err (Gone 1) ∷ Err (NoRun 0) ∷ []
 
 abbrev pub WorkedCalls : Type 0
 WorkedCalls =

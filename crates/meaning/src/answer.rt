@@ -1,7 +1,6 @@
 //! What a book answers, as a value.
-use crate::fault::BookFault;
 
-/// The answer of a book to a call.
+/// The answer of a book to a call that it accepts.
 #[derive(Clone, Copy, PartialEq, Eq, Debug)]
 pub enum Answer {
     /// To a start: the new run's number.
@@ -16,6 +15,4 @@ pub enum Answer {
     Verdict(u8),
     /// A line's truth at a run.
     Truth(u8),
-    /// Nothing has changed.
-    Refused(BookFault),
 }

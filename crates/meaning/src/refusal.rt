@@ -7,12 +7,20 @@ use crate::fault::BookFault;
 use refusals::{Layer, Refusal};
 use stores::StoreFault;
 
-impl BookFault {
-    /// The row of the refusal table that this fault is, with its place; a store's fault keeps its own.
-    pub fn refusal(self) -> Refusal
-        ensures value { result ≡ refusal_of self }
-    {
-        let (number, place) = match self {
+impl From<StoreFault> for BookFault {
+    ghost from_gives = { λ f r. r ≡ of_store f };
+
+    fn from(f: StoreFault) -> BookFault {
+        BookFault::Store(f)
+    }
+}
+
+/// The row of the refusal table that a fault is, with its place; a store's fault keeps its own.
+impl From<BookFault> for Refusal {
+    ghost from_gives = { λ f r. r ≡ refusal_of f };
+
+    fn from(f: BookFault) -> Refusal {
+        let (number, place) = match f {
             BookFault::Width(width) => (10, width),
             BookFault::Holding(high) => (11, high as usize),
             BookFault::Count(count) => (20, count),
@@ -22,28 +30,12 @@ impl BookFault {
             BookFault::NoRuns => (26, 0),
             BookFault::Gone(run) => (27, run as usize),
             BookFault::NoLine(line) => (28, line as usize),
-            BookFault::Store(fault) => return fault.refusal(),
+            BookFault::Store(fault) => return Refusal::from(fault),
         };
         Refusal {
             number,
             layer: Layer::Book,
             place,
         }
-    }
-}
-
-impl From<StoreFault> for BookFault {
-    ghost from_gives = { λ f r. r ≡ of_store f };
-
-    fn from(f: StoreFault) -> BookFault {
-        BookFault::Store(f)
-    }
-}
-
-impl From<BookFault> for Refusal {
-    ghost from_gives = { λ f r. r ≡ refusal_of f };
-
-    fn from(f: BookFault) -> Refusal {
-        f.refusal()
     }
 }
