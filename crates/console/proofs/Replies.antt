@@ -1,5 +1,6 @@
 -- What a line is answered, and one line more of those that are. Assumes nothing.
-use Rattle.std.proofs.Common.{◌≡◌, ℕ, List, [], ◌∷◌, ◌++◌, sym, ap, ◌∙◌, subst, append_assoc, append-nil}
+use Rattle.std.proofs.Common.{◌≡◌, ℕ, List, [], ◌∷◌, ◌++◌, Option, Some, None, Err, MatchOption, sym, ap, ◌∙◌, subst, append_assoc, append-nil}
+use Rattle.std.specs.Option.{ok_or}
 use Rattle.refusals.specs.declared.refusal.Refusal.{Refusal}
 use Rattle.scales.specs.Algebra.{Algebra}
 use Rattle.lines.specs.declared.policy.Policy.{Policy}
@@ -9,9 +10,11 @@ use Rattle.stores.specs.Meaning.{Meaning}
 use Rattle.meaning.specs.Kept.{meaning}
 use Rattle.meaning.specs.Calls.{next}
 use Rattle.book.specs.Books.{Keeps}
+use Rattle.calls.specs.declared.call.Call.{Call}
+use Rattle.calls.specs.declared.fault.ProgramFault.{ProgramFault}
 use Rattle.calls.specs.declared.fault.ProgramFault.TheVariants.{NoCall}
 use Rattle.calls.specs.Faults.{refusal_of}
-use Rattle.calls.specs.Spelling.{Said, Spells}
+use Rattle.calls.specs.Spelling.{Said, said, Spells}
 use Rattle.answers.specs.declared.answer.Answer.{Answer}
 use Rattle.answers.specs.declared.answer.Answer.TheVariants.{Refused}
 use Rattle.console.specs.Output.{asked_of, Answered, call, no_call, AllAnswered, none, more}
@@ -24,8 +27,9 @@ module _ (S : Algebra) (p : Policy) (m : Meaning) (n : ℕ) (line : List ℕ) wh
       let k = next S (lines_of p) p.atoms m.limit h (asked_of s) in
       (k, subst (λ x. Answered S (lines_of p) p.atoms m.limit h n line x k) (sym d.0) (call s sp), d.1)
 
-  pub unspelled : (r : Refusal) → ((s : Said) → Spells s line → ⊥) → r ≡ refusal_of (NoCall n) → LineDone S p m n line (Refused r) m
-  unspelled r nothing is h keeps = (h, subst (λ x. Answered S (lines_of p) p.atoms m.limit h n line (Refused x) h) (sym is) (no_call nothing), keeps)
+  pub unspelled : (o : Option Call) (e : ProgramFault) (r : Refusal) → MatchOption o ((s : Said) → Spells s line → ⊥) (λ c. Spells (said c) line) → Err e ≡ ok_or o (NoCall n) → r ≡ refusal_of e → LineDone S p m n line (Refused r) m
+  unspelled (Some c) e r spells is same = absurd cc
+  unspelled None e r nothing is same = let no : r ≡ refusal_of (NoCall n) = cc in λ h keeps. (h, rw no (no_call nothing), keeps)
 
 -- Of these lines those up to `left` are answered: the list of answers has grown from `before` to `behind`, and the store
 -- has the meaning m.

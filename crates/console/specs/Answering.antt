@@ -1,25 +1,34 @@
 -- What a book answers to lines, for its policy and the meaning of its store. Assumes nothing.
-use Rattle.std.specs.Prelude.{◌≡◌, ℕ, ◌≤◌, List, [], ◌∷◌, ◌++◌, length, vec_items, vec_len, vec_capacity}
+use Rattle.std.specs.Prelude.{◌≡◌, ℕ, ◌≤◌, List, [], ◌∷◌, ◌++◌, length, vec_items, vec_len, vec_capacity, Ok, Err, Result}
+use Rattle.refusals.specs.declared.refusal.Refusal.{Refusal}
 use Rattle.scales.specs.Algebra.{Algebra}
 use Rattle.scales.specs.Scales.{plain}
 use Rattle.lines.specs.declared.policy.Policy.{Policy}
 use Rattle.lines.specs.Policies.{lines_of}
+use Rattle.text.specs.declared.reading.Reading.{Reading}
+use Rattle.text.specs.Texts.{Right}
 use Rattle.logic.specs.History.{History}
 use Rattle.stores.specs.Meaning.{Meaning}
 use Rattle.row_table.specs.declared.table.RowTable.{RowTable}
 use Rattle.row_table.specs.Table.{means}
 use Rattle.meaning.specs.Kept.{meaning}
 use Rattle.book.specs.Books.{Every, Keeps, then}
+use Rattle.calls.specs.Input.{Cut}
 use Rattle.calls.specs.Lines.{numbered, lines_of as input_lines}
 use Rattle.calls.specs.Spelling.{Said}
 use Rattle.answers.specs.declared.answer.Answer.{Answer}
-use Rattle.answers.specs.declared.answer.Answer.TheVariants.{Policy as Sizes}
+use Rattle.answers.specs.declared.answer.Answer.TheVariants.{Policy as Sizes, Refused}
 use Rattle.console.specs.declared.room.Room.{Room}
 use Rattle.console.specs.Output.{asked_of, reply, Answered, AllAnswered}
 
 -- a call that a line spells is answered a, and the store has the meaning m₂ then
 abbrev pub CallDone : Algebra → Policy → Meaning → Said → Answer → Meaning → Type 0
 CallDone S p m s a m₂ = Every S p m (λ h. (a ≡ reply S (lines_of p) p.atoms m.limit h s) × (m₂ ≡ then S p m h (asked_of s)))
+
+-- a refusal is an answer too
+abbrev pub or_refused : Result Answer Refusal → Answer
+or_refused (Ok a) = a
+or_refused (Err refusal) = Refused refusal
 
 -- so with a line and its number
 abbrev pub LineDone : Algebra → Policy → Meaning → ℕ → List ℕ → Answer → Meaning → Type 0
@@ -37,6 +46,10 @@ Ready r = (vec_len r.memory ≡ 18496) × (vec_items r.answers ≡ []) × (65537
 -- represents no events
 abbrev pub Opened : Policy → Policy → RowTable → Type 0
 Opened p q t = (q ≡ p) × ((means t).limit ≡ 64) × Keeps plain p (means t) []
+
+-- the text of an input is read into the policy p, and rest stands behind the text
+abbrev pub PolicyRead : List ℕ → Policy → List ℕ → Type 0
+PolicyRead input p rest = (text : List ℕ) × (reading : Reading) × Cut input text rest × Right text (Ok reading) × (p ≡ reading.policy)
 
 -- how many atoms and lines a policy has
 abbrev pub sizes_of : Policy → Answer

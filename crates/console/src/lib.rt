@@ -5,10 +5,10 @@
 //! policy, and on `book` for the calls, here on the plain scale and a row table of 64 runs.
 #![tactic(auto)]
 
-ghost use Rattle.std.specs.Prelude.{◌≡◌, ◌≤◌, [], ◌∷◌, length};
+ghost use Rattle.std.specs.Prelude.{◌≡◌, ◌≤◌, [], ◌∷◌, length, MatchResult};
 ghost use Rattle.answers.specs.declared.answer.Answer.TheVariants.{Refused as refused};
 ghost use Rattle.console.specs.Output.{Printed, OneOutput};
-ghost use Rattle.console.specs.Answering.{sizes_of, PolicyPrinted};
+ghost use Rattle.console.specs.Answering.{sizes_of, PolicyRead, PolicyPrinted};
 
 use answers::Answer;
 use calls::{Lines, cut_input};
@@ -20,8 +20,18 @@ mod opening;
 mod room;
 
 use answering::answer_lines;
-use opening::open_book;
 pub use room::Room;
+
+/// The policy that the input's text is read into, and what stands behind the text.
+fn read_policy(input: &[u8]) -> Result<(Policy, &[u8]), Refusal>
+    ensures { MatchResult result (λ p. PolicyRead input.now p.0 p.1.now) (λ r. Printed input.now (refused r ∷ [])) }
+{
+    let (text, rest) = cut_input(input)?;
+    match text::read(text) {
+        Ok(reading) => Ok((reading.policy, rest)),
+        Err(fault) => Err(fault.refusal()),
+    }
+}
 
 /// A refusal as the only answer.
 fn refuse(room: Room, refusal: Refusal) -> Vec<Answer>
@@ -50,12 +60,7 @@ fn answer_all(room: Room, policy: Policy, rest: &[u8]) -> Vec<Answer>
     requires { length rest.now ≤ 65536 }
     ensures { PolicyPrinted policy rest.now result.items }
 {
-    let Room {
-        memory,
-        book,
-        mut answers,
-    } = room;
-    let mut book = open_book(memory, book, policy);
+    let (mut book, mut answers) = room.open(policy);
     answers.push_reserved(sizes(&policy));
     answer_lines(&mut book, Lines::new(rest), &mut answers);
     answers
@@ -65,13 +70,9 @@ fn answer_all(room: Room, policy: Policy, rest: &[u8]) -> Vec<Answer>
 pub fn respond(room: Room, input: &[u8]) -> Vec<Answer>
     ensures { Printed input.now result.items }
 {
-    let (text, rest) = match cut_input(input) {
-        Ok(cut) => cut,
-        Err(fault) => return refuse(room, fault.refusal()),
-    };
-    match text::read(text) {
-        Ok(reading) => answer_all(room, reading.policy, rest),
-        Err(fault) => refuse(room, fault.refusal()),
+    match read_policy(input) {
+        Ok((policy, rest)) => answer_all(room, policy, rest),
+        Err(refusal) => refuse(room, refusal),
     }
 }
 

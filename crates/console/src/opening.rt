@@ -1,10 +1,9 @@
 //! The program's room, and the book that is opened in it.
-ghost use Rattle.std.specs.Prelude.{◌≡◌, ◌≤◌, IfOk, vec_len};
-ghost use Rattle.stores.specs.Meaning.{empty};
-ghost use Rattle.row_table.specs.Table.{means};
+ghost use Rattle.std.specs.Prelude.{◌≡◌, IfOk};
 ghost use Rattle.console.specs.Answering.{Ready, Opened};
 
 use crate::room::Room;
+use answers::Answer;
 use book::{Book, BookRoom};
 use lines::Policy;
 use row_table::RowTable;
@@ -14,8 +13,8 @@ use std::alloc::{AllocError, Global};
 /// The most runs that the program's book keeps.
 const LIMIT: usize = 64;
 
-/// The bytes of that many of the widest records.
-const MEMORY: usize = 18_496;
+/// The bytes of the widest record.
+const WIDEST: usize = 289;
 
 /// One answer for the policy and one for each byte of the longest input.
 const MOST_ANSWERS: usize = 65_537;
@@ -25,7 +24,7 @@ impl Room {
     pub fn new(heap: Global) -> Result<Room, AllocError>
         ensures { IfOk result Ready }
     {
-        let memory = vec![in heap; 0; MEMORY]?;
+        let memory = vec![in heap; 0; LIMIT * WIDEST]?;
         let book = BookRoom::new(heap)?;
         let answers = Vec::with_capacity(heap, MOST_ANSWERS)?;
         Ok(Room {
@@ -34,31 +33,26 @@ impl Room {
             answers,
         })
     }
-}
 
-/// An empty table for records of `width` bytes.
-fn new_table(mut memory: Vec<u8>, width: usize) -> RowTable
-    requires memory { vec_len memory ≡ 18496 }
-    requires width { (4 ≤ width) × (width ≤ 289) }
-    ensures { means result ≡ empty width 64 }
-{
-    memory.truncate(LIMIT * width);
-    match RowTable::new(memory, width) {
-        Ok(table) => table,
-        // the memory is just what 64 records take
-        Err(_) => unreachable(),
-    }
-}
-
-/// A book of the policy with no runs yet.
-pub(crate) fn open_book(memory: Vec<u8>, room: BookRoom, policy: Policy) -> Book<Plain, RowTable>
-    requires { vec_len memory ≡ 18496 }
-    ensures { Opened policy result.policy result.store }
-{
-    let table = new_table(memory, 1 + policy.atoms() + 2 * policy.lines().len());
-    match Book::open_in(room, policy, Plain, table) {
-        Ok(book) => book,
-        // the table is empty, and as wide as the policy asks
-        Err(_) => unreachable(),
+    /// A book of the policy with no runs yet, and the room for the answers.
+    pub(crate) fn open(self, policy: Policy) -> (Book<Plain, RowTable>, Vec<Answer>)
+        ensures book { Opened policy result.0.policy result.0.store }
+        ensures answers { result.1 ≡ self.answers }
+    {
+        let Room {
+            mut memory,
+            book,
+            answers,
+        } = self;
+        let width = 1 + policy.atoms() + 2 * policy.lines().len();
+        memory.truncate(LIMIT * width);
+        // the memory is just what that many records take, and the table is empty and as wide as the policy asks
+        let Ok(table) = RowTable::new(memory, width) else {
+            unreachable!()
+        };
+        let Ok(book) = Book::open_in(book, policy, Plain, table) else {
+            unreachable!()
+        };
+        (book, answers)
     }
 }

@@ -11,9 +11,6 @@ invariant-loop-number g l =
     let S = g.K.Scale.algebra in
     let p = l.initial.book.policy in
     let m = g.S.Store.meaning l.initial.book.store in
-    (vec_len l.out + length (lines_left l.lines) ≤ vec_capacity l.out)
+    (vec_len l.out + length (lines_left l.number-iterator) ≤ vec_capacity l.out)
     × (l.book.policy ≡ p)
-    × ((h : History) → Keeps S p m h → SoFar S p m.limit h (lines_left l.initial.lines) (lines_left l.lines) (vec_items l.initial.out) (vec_items l.out) (g.S.Store.meaning l.book.store))
-
-abbrev pub decreases-loop-number : goal.decreases-loop-number
-decreases-loop-number g l = length (lines_left l.lines)
+    × ((h : History) → Keeps S p m h → SoFar S p m.limit h (lines_left l.lines) (lines_left l.number-iterator) (vec_items l.initial.out) (vec_items l.out) (g.S.Store.meaning l.book.store))

@@ -1,0 +1,16 @@
+-- An input without a text, and a text that is no policy, are answered by their refusal alone.
+use Rattle.std.proofs.Common.{refl}
+use Rattle.std.proofs.lemmas.Result.{err_from_is_err_and}
+use Rattle.console.proofs.Outputs.{without_text, without_policy}
+use Rattle.console.proofs.read_policy.Goals as goal
+
+pub returns-in_err-text : goal.returns-in_err-text
+returns-in_err-text c =
+    let p = err_from_is_err_and c.from_residual.result c.from_residual.ensures.1 in
+    rw (p.1) (without_text c.args.input.now _ c.in_err-text.field-0.0 c.in_err-text.ensures p.2)
+
+pub returns-in-Err : goal.returns-in-Err
+returns-in-Err c = without_policy c.args.input.now c.in_ok-text.text.now c.in_ok-text.rest.now c.refusal.result c.in-Err.fault c.in_ok-text.ensures c.in-Err.ensures.right c.refusal.ensures
+
+pub returns-in-Ok : goal.returns-in-Ok
+returns-in-Ok c = (c.in_ok-text.text.now, c.in-Ok.reading, c.in_ok-text.ensures, c.in-Ok.ensures.right, refl)
