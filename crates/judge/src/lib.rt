@@ -18,7 +18,7 @@ use scales::Scale;
 fn at<K: Scale>(scale: &K, xs: &[u8], i: usize) -> u8
     ensures value { result ≡ slice_index_or xs.now i K.Scale.algebra.no }
 {
-    if i < xs.len() { xs[i] } else { scale.no() }
+    xs.get(i).copied().unwrap_or(scale.no())
 }
 
 /// b or (a and earlier).
@@ -81,8 +81,8 @@ pub fn judge_row<K: Scale>(
         out.new ≡ row K.Scale.algebra table.now h s }
 {
     let room = table.len().min(out.len());
-    for i in 0..room {
-        let t = line_truth(scale, table[i], state, past, previous, &out[..i]);
-        out[i] = t;
+    for (i, line) in table[..room].iter().enumerate() {
+        // by its index, since each truth is judged from those above it in the same slice
+        out[i] = line_truth(scale, *line, state, past, previous, &out[..i]);
     }
 }

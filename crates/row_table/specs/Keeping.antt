@@ -1,10 +1,10 @@
 -- What is known of a row table's bytes, and when bytes are those of a row table. Assumes nothing.
-use Rattle.std.specs.Prelude.{◌≡◌, ℕ, ◌+◌, ◌-◌, ◌*◌, ◌≤◌, List, [], ◌∷◌, map, length, vec_items, Vec}
-use Rattle.std.proofs.Common.{sym, ap, subst, ◌∙◌, arith}
+use Rattle.std.specs.Prelude.{◌≡◌, ℕ, ◌+◌, ◌-◌, ◌*◌, ◌≤◌, List, [], map, length, vec_items, Vec}
+use Rattle.std.proofs.Common.{get_or, sym, ap, subst, ◌∙◌, arith}
 use Rattle.std.specs.Vec.{with_items}
 use Rattle.std.specs.List.{range_with_len, AllByRecursion}
 use Rattle.std.proofs.lemmas.List.FromFn.{length-map-range_with_len, get_or-map-range_with_len}
-use Rattle.std.proofs.ByRecursion.{All-map, All-weaker}
+use Rattle.std.proofs.ByRecursion.{All-map, All-weaker, All-from_get_or}
 use Rattle.std.proofs.lemmas.List.{length-take, length-drop, with_items_is}
 use Rattle.stores.specs.Bounds.{Sizes, Window, bounds_of}
 use Rattle.stores.specs.Meaning.{Meaning, IsRecord, Sound, record_at}
@@ -21,10 +21,6 @@ holding b rs = record { width = b.width; limit = b.limit; low = b.low; records =
 abbrev with_high : Bounds → ℕ → Bounds
 with_high b high = record { width = b.width; limit = b.limit; low = b.low; high = high }
 
-all : {X : Type 0} (P : X → Type 0) → ((x : X) → P x) → (xs : List X) → AllByRecursion P xs
-all P h [] = tt
-all P h (x ∷ xs) = (h x, all P h xs)
-
 module _ (b : Bounds) (bytes : List ℕ) (k : Kept b bytes) where
   pub count_is : length (meaning_of b bytes).records ≡ b.high + 1 - b.low
   count_is = length-map-range_with_len (slot b.width b.limit bytes) b.low (b.high + 1 - b.low)
@@ -36,9 +32,10 @@ module _ (b : Bounds) (bytes : List ℕ) (k : Kept b bytes) where
   pub fit : AllByRecursion (IsRecord b.width) (meaning_of b bytes).records
   fit =
       All-map (IsRecord b.width) (slot b.width b.limit bytes) _
-      (all _ (λ run.
+      (All-from_get_or _ _ 0 (λ i _.
+      let run = get_or (range_with_len b.low (b.high + 1 - b.low)) i 0 in
       let f = place_fits b.width b.limit run (omega (arith, k.sizes)) in
-      (simp (length-take, length-drop) (omega (arith, k.inside)), bytes_part b.width (place b.width b.limit run) bytes (bytes_from bytes k.values))) _)
+      (simp (length-take, length-drop) (omega (arith, k.inside)), bytes_part b.width (place b.width b.limit run) bytes (bytes_from bytes k.values))))
 
   pub wide : AllByRecursion (λ r. length r ≡ b.width) (meaning_of b bytes).records
   wide = All-weaker (IsRecord b.width) (λ r. length r ≡ b.width) (λ r h. h.0) (meaning_of b bytes).records fit

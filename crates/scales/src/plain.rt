@@ -25,15 +25,11 @@ impl Scale for Plain {
     }
 
     fn not(&self, a: u8) -> u8 {
-        if a == 0 { 1 } else { 0 }
+        u8::from(a == 0)
     }
 
     fn or(&self, a: u8, b: u8) -> u8 {
-        if a < 2 && b < 2 && (a == 1 || b == 1) {
-            1
-        } else {
-            0
-        }
+        u8::from(a < 2 && b < 2 && (a == 1 || b == 1))
     }
 
     fn is_as_clear(&self, b: u8, a: u8) -> bool {

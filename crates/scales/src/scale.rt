@@ -3,6 +3,8 @@ ghost use Rattle.std.specs.Prelude.{◌≡◌};
 ghost use Rattle.scales.specs.Algebra.{Algebra, Laws, and};
 
 /// A scale (a truth-value algebra) over bytes. A code is a byte that is one of its truth values.
+///
+/// Codes are bytes and no enum: they lie in records and are handed in as they come, and each scale has its own.
 pub trait Scale {
     ghost algebra: { Algebra };
 

@@ -1,12 +1,9 @@
-use Rattle.std.proofs.Common.{◌&&◌, map, get_or, sym, refl, ap, ◌∙◌, subst, rules}
+use Rattle.std.proofs.Common.{◌&&◌, map, get_or, sym, ap, ◌∙◌, subst, rules}
 use Rattle.std.proofs.lemmas.List.{take_all, map_more}
 use Rattle.store_calls.specs.declared.call.StoreCall.TheVariants.{Width}
 use Rattle.store_calls.specs.Calls.{Setting, asked, setting}
 use Rattle.store_calls.proofs.Calls.{Performed, performed_more, performed_alike, pair_decides}
 use Rattle.store_calls.proofs.performing.agree.Goals as goal
-
-pub loop-call-init : goal.loop-call-init
-loop-call-init g c = (record { one = refl; other = refl; same = (λ _. refl, λ _. refl) }, refl, refl)
 
 pub loop-call-preserved : goal.loop-call-preserved
 loop-call-preserved g c =
