@@ -1,6 +1,7 @@
 //! What a book is made of.
-ghost use Rattle.std.specs.Prelude.{◌≡◌, ◌+◌, ◌*◌, length, vec_len};
+ghost use Rattle.std.specs.Prelude.{length};
 ghost use Rattle.lines.specs.Policies.{lines_of};
+ghost use Rattle.book.specs.Rooms.{Fits};
 
 use lines::Policy;
 use scales::Scale;
@@ -23,7 +24,5 @@ pub struct Book<K: Scale, S: Store> {
     pub(crate) scale: K,
     pub(crate) store: S,
     pub(crate) room: Room,
-    ghost wide: { vec_len room.rec ≡ 1 + policy.atoms + 2 * length (lines_of policy) },
-    ghost before: { vec_len room.previous ≡ length (lines_of policy) },
-    ghost judged: { vec_len room.row ≡ length (lines_of policy) },
+    ghost fits: { Fits room policy.atoms (length (lines_of policy)) },
 }

@@ -1,9 +1,11 @@
 //! Opening a book, and handing its store back.
-ghost use Rattle.std.specs.Prelude.{◌≡◌, ◌+◌, ◌*◌, [], length, IfOk, None, vec_len, MatchResult};
+ghost use Rattle.std.specs.Prelude.{◌≡◌, [], length, IfOk, Ok, Err, None, MatchResult};
 ghost use Rattle.lines.specs.Policies.{lines_of};
 ghost use Rattle.meaning.specs.Calls.{unless};
 ghost use Rattle.book.specs.Books.{Keeps, opening_refusal};
+ghost use Rattle.book.specs.declared.opening.OpenFault.TheVariants.{Refused as of_book, NoMemory as no_memory};
 ghost use Rattle.book.specs.Opened.{Refuses};
+ghost use Rattle.book.specs.Rooms.{Fits};
 
 use crate::book::{Book, Room};
 use crate::rooming::make_room;
@@ -20,6 +22,22 @@ pub enum OpenFault {
     Refused(BookFault),
     /// Want of memory.
     NoMemory,
+}
+
+impl From<BookFault> for OpenFault {
+    ghost from_gives = { λ f r. r ≡ of_book f };
+
+    fn from(f: BookFault) -> OpenFault {
+        OpenFault::Refused(f)
+    }
+}
+
+impl From<AllocError> for OpenFault {
+    ghost from_gives = { λ _ r. r ≡ no_memory };
+
+    fn from(_f: AllocError) -> OpenFault {
+        OpenFault::NoMemory
+    }
 }
 
 /// What comes back where no book was opened: the scale and the store as they were handed over.
@@ -45,14 +63,44 @@ pub fn check_opening<S: Store>(policy: &Policy, store: &S) -> Result<(), BookFau
     Ok(())
 }
 
-fn room_for(heap: Global, policy: &Policy) -> Result<Room, AllocError>
-    ensures { IfOk result (λ x. (vec_len x.rec ≡ 1 + policy.now.atoms + 2 * length (lines_of policy.now)) × (vec_len x.previous ≡ length (lines_of policy.now)) × (vec_len x.row ≡ length (lines_of policy.now))) }
+/// Room for a book of this policy on the store, where none of the table's rows refuses it.
+fn room_for<S: Store>(heap: Global, policy: &Policy, store: &S) -> Result<Room, OpenFault>
+    ensures { MatchResult result
+        (λ r. (opening_refusal policy.now (S.Store.meaning store.now) ≡ None) × Fits r policy.now.atoms (length (lines_of policy.now)))
+        (λ fault. Refuses fault (opening_refusal policy.now (S.Store.meaning store.now))) }
 {
-    let lines = policy.lines().len();
-    make_room(heap, 1 + policy.atoms() + 2 * lines, lines)
+    check_opening(policy, store)?;
+    Ok(make_room(heap, policy.atoms(), policy.lines().len())?)
 }
 
 impl<K: Scale, S: Store> Book<K, S> {
+    /// The book of these parts, or scale and store handed back with the fault that stands in the room's place.
+    pub(crate) fn of_parts(
+        room: Result<Room, OpenFault>,
+        policy: Policy,
+        scale: K,
+        store: S,
+    ) -> Result<Book<K, S>, Unopened<K, S>>
+        requires { IfOk room (λ r. Fits r policy.atoms (length (lines_of policy))) }
+        ensures { MatchResult result
+            (λ b. (room ≡ Ok b.room) × (b.policy ≡ policy) × (b.scale ≡ scale) × (b.store ≡ store))
+            (λ e. (room ≡ Err e.fault) × (e.scale ≡ scale) × (e.store ≡ store)) }
+    {
+        match room {
+            Ok(room) => Ok(Book {
+                policy,
+                scale,
+                store,
+                room,
+            }),
+            Err(fault) => Err(Unopened {
+                fault,
+                scale,
+                store,
+            }),
+        }
+    }
+
     /// A book on an empty store of the policy's width.
     ///
     /// Refuses where `check_opening` does. Where no book is opened, scale and store come back as they were.
@@ -66,30 +114,8 @@ impl<K: Scale, S: Store> Book<K, S> {
             (λ b. (opening_refusal policy (S.Store.meaning store) ≡ None) × (b.policy ≡ policy) × (b.scale ≡ scale) × (b.store ≡ store) × Keeps K.Scale.algebra policy (S.Store.meaning store) [])
             (λ e. Refuses e.fault (opening_refusal policy (S.Store.meaning store)) × (e.scale ≡ scale) × (e.store ≡ store)) }
     {
-        if let Err(fault) = check_opening(&policy, &store) {
-            let fault = OpenFault::Refused(fault);
-            return Err(Unopened {
-                fault,
-                scale,
-                store,
-            });
-        }
-        match room_for(heap, &policy) {
-            Ok(room) => Ok(Book {
-                policy,
-                scale,
-                store,
-                room,
-            }),
-            Err(_) => {
-                let fault = OpenFault::NoMemory;
-                Err(Unopened {
-                    fault,
-                    scale,
-                    store,
-                })
-            }
-        }
+        let room = room_for(heap, &policy, &store);
+        Book::of_parts(room, policy, scale, store)
     }
 
     /// The book's policy.

@@ -84,28 +84,21 @@ pub fn perform<K: Scale, S: Store>(
     ensures elsewhere { IfOk result (λ p. (other : Meaning) (ds : List Asked) → other.limit ≡ (S.Store.meaning store).limit → ClearerCalls K.Scale.algebra (map asked calls.now) ds →
         ClearerAnswers K.Scale.algebra p.answers.items (answers K.Scale.algebra policy other [] ds)) }
 {
-    let mut book = match Book::open(heap, policy, scale, store) {
-        Ok(book) => book,
-        Err(back) => return Err(back),
+    let mut book = Book::open(heap, policy, scale, store)?;
+    let Ok(mut answers) = Vec::with_capacity(heap, calls.len()) else {
+        let (scale, store) = book.into_parts();
+        let fault = OpenFault::NoMemory;
+        return Err(Unopened {
+            fault,
+            scale,
+            store,
+        });
     };
-    match Vec::with_capacity(heap, calls.len()) {
-        Ok(mut answers) => {
-            answer_each(&mut book, calls, &mut answers);
-            let (scale, store) = book.into_parts();
-            Ok(Performed {
-                answers,
-                scale,
-                store,
-            })
-        }
-        Err(_) => {
-            let (scale, store) = book.into_parts();
-            let fault = OpenFault::NoMemory;
-            Err(Unopened {
-                fault,
-                scale,
-                store,
-            })
-        }
-    }
+    answer_each(&mut book, calls, &mut answers);
+    let (scale, store) = book.into_parts();
+    Ok(Performed {
+        answers,
+        scale,
+        store,
+    })
 }

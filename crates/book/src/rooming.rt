@@ -1,8 +1,9 @@
-//! Opening a book in room that was made before its policy was known.
-ghost use Rattle.std.specs.Prelude.{◌≡◌, ◌+◌, ◌*◌, ◌≤◌, [], length, IfOk, None, vec_len, MatchResult};
+//! Room for a book, and opening one in room that was made before its policy was known.
+ghost use Rattle.std.specs.Prelude.{◌≡◌, ◌≤◌, [], length, IfOk, None, MatchResult, vec_len};
 ghost use Rattle.lines.specs.Policies.{lines_of};
 ghost use Rattle.book.specs.Books.{Keeps, opening_refusal};
 ghost use Rattle.book.specs.Opened.{OnlyRefuses};
+ghost use Rattle.book.specs.Rooms.{Fits};
 
 use crate::book::{Book, Room};
 use crate::opening::{OpenFault, Unopened, check_opening};
@@ -11,16 +12,17 @@ use scales::Scale;
 use std::alloc::{AllocError, Global};
 use stores::Store;
 
-/// The widest record, and the most lines, that a policy asks for.
-const WIDEST: usize = 289;
+/// The most atoms, and the most lines, that a policy has.
+const MOST_ATOMS: usize = 32;
 
 const MOST_LINES: usize = 128;
 
-/// Makes room for records of this width and rows of this many lines, and does nothing else.
-pub(crate) fn make_room(heap: Global, width: usize, lines: usize) -> Result<Room, AllocError>
-    ensures { IfOk result (λ x. (vec_len x.rec ≡ width) × (vec_len x.previous ≡ lines) × (vec_len x.row ≡ lines)) }
+/// Makes room for so many atoms and lines, and does nothing else.
+pub(crate) fn make_room(heap: Global, atoms: usize, lines: usize) -> Result<Room, AllocError>
+    requires { (atoms ≤ 32) × (lines ≤ 128) }
+    ensures { IfOk result (λ x. Fits x atoms lines) }
 {
-    let rec = vec![in heap; 0; width]?;
+    let rec = vec![in heap; 0; 1 + atoms + 2 * lines]?;
     let previous = vec![in heap; 0; lines]?;
     let row = vec![in heap; 0; lines]?;
     Ok(Room { rec, previous, row })
@@ -30,9 +32,7 @@ pub(crate) fn make_room(heap: Global, width: usize, lines: usize) -> Result<Room
 #[derive(Drop)]
 pub struct BookRoom {
     pub(crate) room: Room,
-    ghost wide: { vec_len room.rec ≡ 289 },
-    ghost before: { vec_len room.previous ≡ 128 },
-    ghost judged: { vec_len room.row ≡ 128 },
+    ghost fits: { Fits room 32 128 },
 }
 
 impl BookRoom {
@@ -40,14 +40,17 @@ impl BookRoom {
     pub fn new(heap: Global) -> Result<BookRoom, AllocError>
         ensures { IfOk result (λ b. vec_len b.room.rec ≡ 289) }
     {
-        let room = make_room(heap, WIDEST, MOST_LINES)?;
+        let room = make_room(heap, MOST_ATOMS, MOST_LINES)?;
         Ok(BookRoom { room })
     }
 
-    /// As much of the room as the policy asks for.
-    fn cut_for(self, policy: &Policy) -> Room
-        ensures { (vec_len result.rec ≡ 1 + policy.now.atoms + 2 * length (lines_of policy.now)) × (vec_len result.previous ≡ length (lines_of policy.now)) × (vec_len result.row ≡ length (lines_of policy.now)) }
+    /// As much of the room as the policy asks for, where no row of the table refuses its book on the store.
+    fn cut_for<S: Store>(self, policy: &Policy, store: &S) -> Result<Room, OpenFault>
+        ensures { MatchResult result
+            (λ r. (opening_refusal policy.now (S.Store.meaning store.now) ≡ None) × Fits r policy.now.atoms (length (lines_of policy.now)))
+            (λ fault. OnlyRefuses fault (opening_refusal policy.now (S.Store.meaning store.now))) }
     {
+        check_opening(policy, store)?;
         let BookRoom { room } = self;
         let Room {
             mut rec,
@@ -58,7 +61,7 @@ impl BookRoom {
         rec.truncate(1 + policy.atoms() + 2 * lines);
         previous.truncate(lines);
         row.truncate(lines);
-        Room { rec, previous, row }
+        Ok(Room { rec, previous, row })
     }
 }
 
@@ -76,20 +79,7 @@ impl<K: Scale, S: Store> Book<K, S> {
             (λ b. (opening_refusal policy (S.Store.meaning store) ≡ None) × (b.policy ≡ policy) × (b.scale ≡ scale) × (b.store ≡ store) × Keeps K.Scale.algebra policy (S.Store.meaning store) [])
             (λ e. OnlyRefuses e.fault (opening_refusal policy (S.Store.meaning store)) × (e.scale ≡ scale) × (e.store ≡ store)) }
     {
-        if let Err(fault) = check_opening(&policy, &store) {
-            let fault = OpenFault::Refused(fault);
-            return Err(Unopened {
-                fault,
-                scale,
-                store,
-            });
-        }
-        let room = room.cut_for(&policy);
-        Ok(Book {
-            policy,
-            scale,
-            store,
-            room,
-        })
+        let room = room.cut_for(&policy, &store);
+        Book::of_parts(room, policy, scale, store)
     }
 }
