@@ -1,4 +1,5 @@
 -- The limits that the machine tests are those that the signs read so far give.
+use Rattle.std.proofs.lemmas.Bool.{cond_both}
 use Rattle.std.proofs.Common.{◌≡◌, ℕ, suc, Bool, true, false, cond, ◌||◌, ltb, List, [], ◌∷◌, ◌++◌, length, Some, None, Option, sym, refl, ap, ◌∙◌, append-nil, arith}
 use Rattle.lines.specs.declared.line.Prefix.{Prefix}
 use Rattle.lines.specs.declared.line.Infix.{Infix}
@@ -7,7 +8,6 @@ use Rattle.lines.specs.Forms.{Form, no, yes, joined}
 use Rattle.signs.specs.declared.sign.Mark.{Mark}
 use Rattle.signs.specs.declared.sign.Mark.TheVariants.{Open, Close, Not, And, Or, Arrow, Comma, Semicolon, Stop, YL, SL, OL, HL, YG, SG, OG, HG, Atoms, Rule, True, False}
 use Rattle.signs.specs.Signs.{Kind, mark, name, end}
-use Rattle.signs.proofs.Stretches.{by_cond}
 use Rattle.grammar.specs.declared.fault.GrammarFault.TheVariants as faults
 use Rattle.grammar.specs.Machine.{is_mark, wrapped, join, Lefts, Bracket, Point, due, unit_read, link_read, conj_read, disj_read, form_read, State, begun, name_due, name_read, rule_due, in_rule, stopped, lefts, no_lefts, choose, closed, ended, after_form, after_disj, after_conj, after_link, after_unit, unit_sign, rule_sign, name_sign, step, is_declared, with_prefixes, open_brackets, name_limit, opens, unit_limit, limit}
 use Rattle.grammar.specs.Limits.{rule_begun, names_in, Opening, prefix, bracket, unit_ends, bracket_ends, opened, open_after, limit_at}
@@ -154,24 +154,24 @@ module _ (ns : List (List ℕ)) (g : Form) (l : Lefts) (bs : List Bracket) (s : 
   stop_to f (b ∷ cs) e is = tt
 
   form_to : (f : Form) → P (after_form ns f bs k)
-  form_to f = by_cond P (is_mark Close k) _ _ (λ c. close_to f bs refl (mark_is Close k c)) (λ _. by_cond P (is_mark Stop k) _ _ (λ c. stop_to f bs refl (mark_is Stop k c)) (λ _. tt))
+  form_to f = cond_both (is_mark Close k) _ _ P (λ c. close_to f bs refl (mark_is Close k c)) (λ _. cond_both (is_mark Stop k) _ _ P (λ c. stop_to f bs refl (mark_is Stop k c)) (λ _. tt))
 
   disj_to : (f : Form) (i : Option Form) → P (after_disj ns f i bs k)
-  disj_to f None = by_cond P (is_mark Arrow k) _ _ (λ c. infix_to Arrow _ (mark_is Arrow k c) refl (λ _. refl)) (λ _. form_to f)
+  disj_to f None = cond_both (is_mark Arrow k) _ _ P (λ c. infix_to Arrow _ (mark_is Arrow k c) refl (λ _. refl)) (λ _. form_to f)
   disj_to f (Some i) = form_to (joined pair.Implies i f)
 
   conj_to : (f : Form) (d i : Option Form) → P (after_conj ns f d i bs k)
-  conj_to f d i = by_cond P (is_mark Or k) _ _ (λ c. infix_to Or _ (mark_is Or k c) refl (λ _. refl)) (λ _. disj_to (join pair.Or d f) i)
+  conj_to f d i = cond_both (is_mark Or k) _ _ P (λ c. infix_to Or _ (mark_is Or k c) refl (λ _. refl)) (λ _. disj_to (join pair.Or d f) i)
 
   link_to : (f : Form) (c d i : Option Form) → P (after_link ns f c d i bs k)
-  link_to f c d i = by_cond P (is_mark And k) _ _ (λ e. infix_to And _ (mark_is And k e) refl (λ _. refl)) (λ _. conj_to (join pair.And c f) d i)
+  link_to f c d i = cond_both (is_mark And k) _ _ P (λ e. infix_to And _ (mark_is And k e) refl (λ _. refl)) (λ _. conj_to (join pair.And c f) d i)
 
   unit_to : (o : Option (Infix × Form)) (c d i : Option Form) → P (after_unit ns g o c d i bs k)
   unit_to (Some o) c d i = link_to (joined o.0 o.1 g) c d i
   unit_to None c d i =
       let Q : Option Infix → Type 0 = λ o. P (choose o (after_link ns g c d i bs k) (λ o. Some (in_rule ns (due [] (lefts (Some (o, g)) c d i) bs)))) in
-      by_cond Q (is_mark SL k) _ _ (λ e. infix_to SL _ (mark_is SL k e) refl (λ _. refl)) (λ _.
-      by_cond Q (is_mark SG k) _ _ (λ e. infix_to SG _ (mark_is SG k e) refl (λ _. refl)) (λ _. link_to g c d i))
+      cond_both (is_mark SL k) _ _ Q (λ e. infix_to SL _ (mark_is SL k e) refl (λ _. refl)) (λ _.
+      cond_both (is_mark SG k) _ _ Q (λ e. infix_to SG _ (mark_is SG k e) refl (λ _. refl)) (λ _. link_to g c d i))
 
 -- where a unit is due
 module _ (ns : List (List ℕ)) (os : List Prefix) (l : Lefts) (bs : List Bracket) (s : List Kind) (t : Tracks (in_rule ns (due os l bs)) s) where
@@ -187,16 +187,16 @@ module _ (ns : List (List ℕ)) (os : List Prefix) (l : Lefts) (bs : List Bracke
       let P : Option State → Type 0 = Tracked (in_rule ns (due os l bs)) s k in
       let rest : Option State = cond (is_mark Open k) (Some (in_rule ns (due [] no_lefts ((os, l) ∷ bs)))) (cond (is_mark True k) (Some (in_rule ns (unit_read (wrapped os yes) l bs))) (cond (is_mark False k) (Some (in_rule ns (unit_read (wrapped os no) l bs))) None)) in
       let Q : Option Prefix → Type 0 = λ o. P (choose o rest (λ o. Some (in_rule ns (due (o ∷ os) l bs)))) in
-      by_cond Q (is_mark Not k) _ _ (λ e. mark_to m _ Not refl refl (mark_is Not k e) refl) (λ _.
-      by_cond Q (is_mark YL k) _ _ (λ e. mark_to m _ YL refl refl (mark_is YL k e) refl) (λ _.
-      by_cond Q (is_mark OL k) _ _ (λ e. mark_to m _ OL refl refl (mark_is OL k e) refl) (λ _.
-      by_cond Q (is_mark HL k) _ _ (λ e. mark_to m _ HL refl refl (mark_is HL k e) refl) (λ _.
-      by_cond Q (is_mark YG k) _ _ (λ e. mark_to m _ YG refl refl (mark_is YG k e) refl) (λ _.
-      by_cond Q (is_mark OG k) _ _ (λ e. mark_to m _ OG refl refl (mark_is OG k e) refl) (λ _.
-      by_cond Q (is_mark HG k) _ _ (λ e. mark_to m _ HG refl refl (mark_is HG k e) refl) (λ _.
-      by_cond P (is_mark Open k) _ _ (λ e. mark_to m _ Open refl refl (mark_is Open k e) refl) (λ _.
-      by_cond P (is_mark True k) _ _ (λ e. mark_to m _ True refl refl (mark_is True k e) (prefixes_end os bs)) (λ _.
-      by_cond P (is_mark False k) _ _ (λ e. mark_to m _ False refl refl (mark_is False k e) (prefixes_end os bs)) (λ _. tt))))))))))
+      cond_both (is_mark Not k) _ _ Q (λ e. mark_to m _ Not refl refl (mark_is Not k e) refl) (λ _.
+      cond_both (is_mark YL k) _ _ Q (λ e. mark_to m _ YL refl refl (mark_is YL k e) refl) (λ _.
+      cond_both (is_mark OL k) _ _ Q (λ e. mark_to m _ OL refl refl (mark_is OL k e) refl) (λ _.
+      cond_both (is_mark HL k) _ _ Q (λ e. mark_to m _ HL refl refl (mark_is HL k e) refl) (λ _.
+      cond_both (is_mark YG k) _ _ Q (λ e. mark_to m _ YG refl refl (mark_is YG k e) refl) (λ _.
+      cond_both (is_mark OG k) _ _ Q (λ e. mark_to m _ OG refl refl (mark_is OG k e) refl) (λ _.
+      cond_both (is_mark HG k) _ _ Q (λ e. mark_to m _ HG refl refl (mark_is HG k e) refl) (λ _.
+      cond_both (is_mark Open k) _ _ P (λ e. mark_to m _ Open refl refl (mark_is Open k e) refl) (λ _.
+      cond_both (is_mark True k) _ _ P (λ e. mark_to m _ True refl refl (mark_is True k e) (prefixes_end os bs)) (λ _.
+      cond_both (is_mark False k) _ _ P (λ e. mark_to m _ False refl refl (mark_is False k e) (prefixes_end os bs)) (λ _. tt))))))))))
 
   due_to : (k : Kind) → Tracked (in_rule ns (due os l bs)) s k (unit_sign ns os l bs k)
   due_to (name w) = (ruled_to ns (due os l bs) s t (name w) _ refl refl (prefixes_end os bs), name_within ns (due os l bs) s t w)
@@ -240,13 +240,13 @@ rule_to ns (form_read f bs) s r k at t = absurd at
 
 pub tracked : (st : State) (s : List Kind) (k : Kind) → Leads st s → Tracks st s → Tracked st s k (step st k)
 tracked begun s k l t =
-    by_cond (Tracked begun s k) (is_mark Atoms k) _ _ (λ c. (between begun s t refl refl Atoms k _ (mark_is Atoms k c) refl refl refl refl, quiet s k Atoms (mark_is Atoms k c) (λ _. refl))) (λ _. tt)
+    cond_both (is_mark Atoms k) _ _ (Tracked begun s k) (λ c. (between begun s t refl refl Atoms k _ (mark_is Atoms k c) refl refl refl refl, quiet s k Atoms (mark_is Atoms k c) (λ _. refl))) (λ _. tt)
 tracked (name_due ns) s k l t = names_to ns s k t
 tracked (name_read ns) s k l t =
-    by_cond (Tracked (name_read ns) s k) (is_mark Comma k) _ _ (λ c. (between (name_read ns) s t refl refl Comma k _ (mark_is Comma k c) refl refl refl refl, quiet s k Comma (mark_is Comma k c) (λ _. refl))) (λ _.
-    by_cond (Tracked (name_read ns) s k) (is_mark Semicolon k) _ _ (λ c. (between (name_read ns) s t refl refl Semicolon k _ (mark_is Semicolon k c) refl refl refl refl, quiet s k Semicolon (mark_is Semicolon k c) (λ _. refl))) (λ _. tt))
+    cond_both (is_mark Comma k) _ _ (Tracked (name_read ns) s k) (λ c. (between (name_read ns) s t refl refl Comma k _ (mark_is Comma k c) refl refl refl refl, quiet s k Comma (mark_is Comma k c) (λ _. refl))) (λ _.
+    cond_both (is_mark Semicolon k) _ _ (Tracked (name_read ns) s k) (λ c. (between (name_read ns) s t refl refl Semicolon k _ (mark_is Semicolon k c) refl refl refl refl, quiet s k Semicolon (mark_is Semicolon k c) (λ _. refl))) (λ _. tt))
 tracked (rule_due ns) s k l t =
-    by_cond (Tracked (rule_due ns) s k) (is_mark Rule k) _ _ (λ c. (between (rule_due ns) s t refl refl Rule k _ (mark_is Rule k c) refl refl refl refl, quiet s k Rule (mark_is Rule k c) (λ _. refl))) (λ _. tt)
+    cond_both (is_mark Rule k) _ _ (Tracked (rule_due ns) s k) (λ c. (between (rule_due ns) s t refl refl Rule k _ (mark_is Rule k c) refl refl refl refl, quiet s k Rule (mark_is Rule k c) (λ _. refl))) (λ _. tt)
 tracked (in_rule ns p) s k l t = rule_to ns p s l.1 k l.3 t
 tracked (stopped ns f) s k l t = tt
 

@@ -1,10 +1,9 @@
 -- The machine comes to what is right, and nothing else is right.
 use Rattle.std.proofs.Common.{◌≡◌, ℕ, Bool, true, false, cond, ltb, List, [], ◌∷◌, ◌++◌, length, Some, None, Option, sym, refl, ap, ◌∙◌, subst, append_assoc, append-nil, arith, ltb-false, ltb-true}
-use Rattle.std.proofs.lemmas.Bool.{cond-true, cond-false, lt-ltb, le-ltb}
+use Rattle.std.proofs.lemmas.Bool.{cond_both, cond-true, cond-false, lt-ltb, le-ltb}
 use Rattle.lines.specs.Forms.{Form}
 use Rattle.signs.specs.Signs.{Kind, mark, name, end}
 use Rattle.signs.specs.Walk.{Signs, ends, wrong, sign, signs_of}
-use Rattle.signs.proofs.Stretches.{by_cond}
 use Rattle.grammar.specs.declared.fault.GrammarFault.{GrammarFault}
 use Rattle.grammar.specs.declared.fault.GrammarFault.TheVariants as faults
 use Rattle.grammar.specs.Grammar.{Begins}
@@ -105,7 +104,7 @@ come_none = record { way = refl; tracks = tracks_none }
 
 pub reads_right : ReadsRight
 reads_right text =
-    by_cond (Reading text) (ltb 8192 (length text)) _ _ (λ l. too_long (omega (arith, ltb-true, l)))
+    cond_both (ltb 8192 (length text)) _ _ (Reading text) (λ l. too_long (omega (arith, ltb-true, l)))
     (λ l. by_signs (omega (arith, ltb-false, l)) (run_right (signs_of text) [] begun (signs_of text) come_none tt here))
 
 -- the machine's way along signs that keep the limits

@@ -1,5 +1,6 @@
 -- Whatever the machine reads to its end, the grammar derives: soundness. Each state is tied to the signs
 -- that have been read.
+use Rattle.std.proofs.lemmas.Bool.{cond_both}
 use Rattle.std.proofs.Common.{◌≡◌, ℕ, Bool, true, false, cond, eqb, ◌⊎◌, List, [], ◌∷◌, ◌++◌, Some, None, Option, sym, refl, ap, ◌∙◌, subst, inl, inr, append_assoc, append-nil, arith}
 use Rattle.std.proofs.lemmas.Bool.Decides.{nat_tests}
 use Rattle.lines.specs.declared.line.Prefix.{Prefix}
@@ -11,7 +12,6 @@ use Rattle.signs.specs.declared.sign.Mark.{Mark}
 use Rattle.signs.specs.declared.sign.Mark.TheVariants.{Open, Close, Not, And, Or, Arrow, Comma, Semicolon, Stop, YL, SL, OL, HL, YG, SG, OG, HG, Atoms, Rule, True, False}
 use Rattle.signs.specs.Marks.{mark_number}
 use Rattle.signs.specs.Signs.{Kind, mark, name, end}
-use Rattle.signs.proofs.Stretches.{by_cond}
 use Rattle.grammar.specs.Grammar.{prefix_mark, number, IsUnit, is_name, is_true, is_false, is_prefixed, is_bracketed, IsLink, is_unit, is_since_local, is_since_global, IsConj, is_link, is_and, IsDisj, is_conj, is_or, IsForm, is_disj, is_implies, AreNames, one_name, one_more, IsPolicy, is_policy}
 use Rattle.grammar.specs.Machine.{is_mark, wrapped, join, Lefts, Bracket, Point, due, unit_read, link_read, conj_read, disj_read, form_read, State, begun, name_due, name_read, rule_due, in_rule, stopped, lefts, no_lefts, choose, closed, ended, after_form, after_disj, after_conj, after_link, after_unit, unit_sign, rule_sign, name_sign, step, steps}
 
@@ -154,8 +154,8 @@ module _ (ns : List (List ℕ)) where
 
     onto_form : (bs : List Bracket) (e v : List Kind) (f : Form) → Enclosed ns bs e → IsForm ns v f → RuleOnto (e ++ v) (after_form ns f bs k)
     onto_form bs e v f enc p =
-        by_cond (RuleOnto (e ++ v)) (is_mark Close k) _ _ (λ c. onto_close bs e v f (mark_is Close k c) enc p) (λ _.
-        by_cond (RuleOnto (e ++ v)) (is_mark Stop k) _ _ (λ c. onto_stop bs e v f (mark_is Stop k c) enc p) (λ _. tt))
+        cond_both (is_mark Close k) _ _ (RuleOnto (e ++ v)) (λ c. onto_close bs e v f (mark_is Close k c) enc p) (λ _.
+        cond_both (is_mark Stop k) _ _ (RuleOnto (e ++ v)) (λ c. onto_stop bs e v f (mark_is Stop k c) enc p) (λ _. tt))
 
     -- a unit is due behind a new left side
     due_next : (bs : List Bracket) (e t r : List Kind) (l : Lefts) → Enclosed ns bs e → Waiting ns l t → r ++ (k ∷ []) ≡ e ++ t → RuleOnto r (Some (in_rule ns (due [] l bs)))
@@ -164,7 +164,7 @@ module _ (ns : List (List ℕ)) where
     onto_disj : (i : Option Form) (bs : List Bracket) (e a v : List Kind) (f : Form) → Enclosed ns bs e → Waits (IsDisj ns) Arrow i a → IsDisj ns v f → RuleOnto (e ++ (a ++ v)) (after_disj ns f i bs k)
     onto_disj (Some g) bs e a v f enc wi p = onto_form bs e (a ++ v) (joined pair.Implies g f) enc (implies_joins (Some g) a v f wi p)
     onto_disj None bs e a v f enc wi p =
-        by_cond (RuleOnto (e ++ (a ++ v))) (is_mark Arrow k) _ _
+        cond_both (is_mark Arrow k) _ _ (RuleOnto (e ++ (a ++ v)))
         (λ c. due_next bs e (v ++ (mark Arrow ∷ [])) (e ++ (a ++ v)) (lefts None None None (Some f)) enc
         (record { i_signs = v ++ (mark Arrow ∷ []); d_signs = []; c_signs = []; s_signs = []; implied = (v, p, refl); disj = refl; conj = refl; since = refl; whole = sym (append-nil (v ++ (mark Arrow ∷ []))) })
         (ap (λ x. (e ++ (a ++ v)) ++ (x ∷ [])) (mark_is Arrow k c) ∙ ap (λ x. (e ++ (x ++ v)) ++ (mark Arrow ∷ [])) wi ∙ append_assoc e v (mark Arrow ∷ [])))
@@ -172,7 +172,7 @@ module _ (ns : List (List ℕ)) where
 
     onto_conj : (d i : Option Form) (bs : List Bracket) (e a b v : List Kind) (f : Form) → Enclosed ns bs e → Waits (IsDisj ns) Arrow i a → Waits (IsDisj ns) Or d b → IsConj ns v f → RuleOnto (e ++ (a ++ (b ++ v))) (after_conj ns f d i bs k)
     onto_conj d i bs e a b v f enc wi wd p =
-        by_cond (RuleOnto (e ++ (a ++ (b ++ v)))) (is_mark Or k) _ _
+        cond_both (is_mark Or k) _ _ (RuleOnto (e ++ (a ++ (b ++ v))))
         (λ c. due_next bs e (a ++ ((b ++ v) ++ (mark Or ∷ []))) (e ++ (a ++ (b ++ v))) (lefts None None (Some (join pair.Or d f)) i) enc
         (record { i_signs = a; d_signs = (b ++ v) ++ (mark Or ∷ []); c_signs = []; s_signs = []; implied = wi; disj = (b ++ v, disj_joins d b v f wd p, refl); conj = refl; since = refl; whole = ap (λ x. a ++ x) (sym (append-nil ((b ++ v) ++ (mark Or ∷ [])))) })
         (ap (λ x. (e ++ (a ++ (b ++ v))) ++ (x ∷ [])) (mark_is Or k c) ∙ simp append_assoc))
@@ -180,7 +180,7 @@ module _ (ns : List (List ℕ)) where
 
     onto_link : (c d i : Option Form) (bs : List Bracket) (e a b g v : List Kind) (f : Form) → Enclosed ns bs e → Waits (IsDisj ns) Arrow i a → Waits (IsDisj ns) Or d b → Waits (IsConj ns) And c g → IsLink ns v f → RuleOnto (e ++ (a ++ (b ++ (g ++ v)))) (after_link ns f c d i bs k)
     onto_link c d i bs e a b g v f enc wi wd wc p =
-        by_cond (RuleOnto (e ++ (a ++ (b ++ (g ++ v))))) (is_mark And k) _ _
+        cond_both (is_mark And k) _ _ (RuleOnto (e ++ (a ++ (b ++ (g ++ v)))))
         (λ is. due_next bs e (a ++ (b ++ ((g ++ v) ++ (mark And ∷ [])))) (e ++ (a ++ (b ++ (g ++ v)))) (lefts None (Some (join pair.And c f)) d i) enc
         (record { i_signs = a; d_signs = b; c_signs = (g ++ v) ++ (mark And ∷ []); s_signs = []; implied = wi; disj = wd; conj = (g ++ v, conj_joins c g v f wc p, refl); since = refl; whole = ap (λ x. a ++ (b ++ x)) (sym (append-nil ((g ++ v) ++ (mark And ∷ [])))) })
         (ap (λ x. (e ++ (a ++ (b ++ (g ++ v)))) ++ (x ∷ [])) (mark_is And k is) ∙ simp append_assoc))
@@ -205,8 +205,8 @@ module _ (ns : List (List ℕ)) where
         let R : Option State → Type 0 = RuleOnto (e ++ (a ++ (b ++ (g ++ (t ++ v))))) in
         let Q : Option Infix → Type 0 = λ o. R (choose o (after_link ns f c d i bs k) (λ o. Some (in_rule ns (due [] (lefts (Some (o, f)) c d i) bs)))) in
         let back = λ (o : Option State) (q : RuleOnto (e ++ (a ++ (b ++ (g ++ v)))) o). subst (λ x. RuleOnto (e ++ (a ++ (b ++ (g ++ x)))) o) (sym here) q in
-        by_cond Q (is_mark SL k) _ _ (λ is. back (Some (in_rule ns (due [] (lefts (Some (pair.SL, f)) c d i) bs))) (onto_since pair.SL SL c d i bs e a b g v f (inl (refl, refl)) (mark_is SL k is) enc wi wd wc p)) (λ _.
-        by_cond Q (is_mark SG k) _ _ (λ is. back (Some (in_rule ns (due [] (lefts (Some (pair.SG, f)) c d i) bs))) (onto_since pair.SG SG c d i bs e a b g v f (inr (refl, refl)) (mark_is SG k is) enc wi wd wc p)) (λ _.
+        cond_both (is_mark SL k) _ _ Q (λ is. back (Some (in_rule ns (due [] (lefts (Some (pair.SL, f)) c d i) bs))) (onto_since pair.SL SL c d i bs e a b g v f (inl (refl, refl)) (mark_is SL k is) enc wi wd wc p)) (λ _.
+        cond_both (is_mark SG k) _ _ Q (λ is. back (Some (in_rule ns (due [] (lefts (Some (pair.SG, f)) c d i) bs))) (onto_since pair.SG SG c d i bs e a b g v f (inr (refl, refl)) (mark_is SG k is) enc wi wd wc p)) (λ _.
         onto_link c d i bs e a b g (t ++ v) f enc wi wd wc (link_joins None t v f ws p)))
 
     onto_after : (f : Form) (l : Lefts) (bs : List Bracket) (r : List Kind) → AtPoint ns (unit_read f l bs) r → RuleOnto r (after_unit ns f l.since l.conj l.disj l.implied bs k)
@@ -244,16 +244,16 @@ module _ (ns : List (List ℕ)) where
         let rest : Option State = cond (is_mark Open k) (Some (in_rule ns (due [] no_lefts ((os, l) ∷ bs)))) (cond (is_mark True k) (Some (in_rule ns (unit_read (wrapped os yes) l bs))) (cond (is_mark False k) (Some (in_rule ns (unit_read (wrapped os no) l bs))) None)) in
         let Q : Option Prefix → Type 0 = λ o. Ruled r k (choose o rest (λ o. Some (in_rule ns (due (o ∷ os) l bs)))) in
         let pre = λ (o : Prefix) (e : is_mark (prefix_mark o) k ≡ true). onto_prefix h given k o os l bs r at (mark_is (prefix_mark o) k e) in
-        by_cond Q (is_mark Not k) _ _ (pre single.Not) (λ _.
-        by_cond Q (is_mark YL k) _ _ (pre single.YL) (λ _.
-        by_cond Q (is_mark OL k) _ _ (pre single.OL) (λ _.
-        by_cond Q (is_mark HL k) _ _ (pre single.HL) (λ _.
-        by_cond Q (is_mark YG k) _ _ (pre single.YG) (λ _.
-        by_cond Q (is_mark OG k) _ _ (pre single.OG) (λ _.
-        by_cond Q (is_mark HG k) _ _ (pre single.HG) (λ _.
-        by_cond (Ruled r k) (is_mark Open k) _ _ (λ e. onto_open h given k os l bs r at (mark_is Open k e)) (λ _.
-        by_cond (Ruled r k) (is_mark True k) _ _ (λ e. onto_single h given k os l bs r yes at (subst (λ x. IsUnit ns (x ∷ []) yes) (sym (mark_is True k e)) is_true)) (λ _.
-        by_cond (Ruled r k) (is_mark False k) _ _ (λ e. onto_single h given k os l bs r no at (subst (λ x. IsUnit ns (x ∷ []) no) (sym (mark_is False k e)) is_false)) (λ _. tt))))))))))
+        cond_both (is_mark Not k) _ _ Q (pre single.Not) (λ _.
+        cond_both (is_mark YL k) _ _ Q (pre single.YL) (λ _.
+        cond_both (is_mark OL k) _ _ Q (pre single.OL) (λ _.
+        cond_both (is_mark HL k) _ _ Q (pre single.HL) (λ _.
+        cond_both (is_mark YG k) _ _ Q (pre single.YG) (λ _.
+        cond_both (is_mark OG k) _ _ Q (pre single.OG) (λ _.
+        cond_both (is_mark HG k) _ _ Q (pre single.HG) (λ _.
+        cond_both (is_mark Open k) _ _ (Ruled r k) (λ e. onto_open h given k os l bs r at (mark_is Open k e)) (λ _.
+        cond_both (is_mark True k) _ _ (Ruled r k) (λ e. onto_single h given k os l bs r yes at (subst (λ x. IsUnit ns (x ∷ []) yes) (sym (mark_is True k e)) is_true)) (λ _.
+        cond_both (is_mark False k) _ _ (Ruled r k) (λ e. onto_single h given k os l bs r no at (subst (λ x. IsUnit ns (x ∷ []) no) (sym (mark_is False k e)) is_false)) (λ _. tt))))))))))
 
     onto_rule : (p : Point) (k : Kind) (r : List Kind) → AtPoint ns p r → Ruled r k (rule_sign ns p k)
     onto_rule (due os l bs) (name w) r at = onto_single h given (name w) os l bs r (atom (number ns w)) at (is_name w)
@@ -273,13 +273,13 @@ onto_name ns s (name w) (inr (t, a, e)) = (t ++ (mark Comma ∷ (name w ∷ []))
 
 -- one sign more
 onto : (st : State) (s : List Kind) (k : Kind) → Leads st s → Onto (s ++ (k ∷ [])) (step st k)
-onto begun s k e = by_cond (Onto (s ++ (k ∷ []))) (is_mark Atoms k) _ _ (λ c. inl (refl, ap (λ x. x ++ (k ∷ [])) e ∙ ap (λ x. x ∷ []) (mark_is Atoms k c))) (λ _. tt)
+onto begun s k e = cond_both (is_mark Atoms k) _ _ (Onto (s ++ (k ∷ []))) (λ c. inl (refl, ap (λ x. x ++ (k ∷ [])) e ∙ ap (λ x. x ∷ []) (mark_is Atoms k c))) (λ _. tt)
 onto (name_due ns) s k l = onto_name ns s k l
 onto (name_read ns) s k (t, a, e) =
-    by_cond (Onto (s ++ (k ∷ []))) (is_mark Comma k) _ _ (λ c. inr (t, a, ap (λ x. x ++ (k ∷ [])) e ∙ ap (λ x. mark Atoms ∷ (t ++ (x ∷ []))) (mark_is Comma k c))) (λ _.
-    by_cond (Onto (s ++ (k ∷ []))) (is_mark Semicolon k) _ _ (λ c. (t, a, ap (λ x. x ++ (k ∷ [])) e ∙ ap (λ x. mark Atoms ∷ (t ++ (x ∷ []))) (mark_is Semicolon k c))) (λ _. tt))
+    cond_both (is_mark Comma k) _ _ (Onto (s ++ (k ∷ []))) (λ c. inr (t, a, ap (λ x. x ++ (k ∷ [])) e ∙ ap (λ x. mark Atoms ∷ (t ++ (x ∷ []))) (mark_is Comma k c))) (λ _.
+    cond_both (is_mark Semicolon k) _ _ (Onto (s ++ (k ∷ []))) (λ c. (t, a, ap (λ x. x ++ (k ∷ [])) e ∙ ap (λ x. mark Atoms ∷ (t ++ (x ∷ []))) (mark_is Semicolon k c))) (λ _. tt))
 onto (rule_due ns) s k (t, a, e) =
-    by_cond (Onto (s ++ (k ∷ []))) (is_mark Rule k) _ _
+    cond_both (is_mark Rule k) _ _ (Onto (s ++ (k ∷ [])))
     (λ c. (
       t,
       [],

@@ -1,6 +1,6 @@
 -- The table of a form over declared atoms is well-formed.
-use Rattle.std.proofs.Common.{◌≡◌, ℕ, suc, ◌+◌, ◌<◌, ◌≤◌, Bool, true, false, ◌&&◌, ltb, List, [], ◌∷◌, ◌++◌, length, sym, refl, ap, ◌∙◌, add-zero, arith}
-use Rattle.std.proofs.lemmas.Bool.{lt-ltb}
+use Rattle.std.proofs.Common.{◌≡◌, ℕ, suc, ◌+◌, ◌<◌, ◌≤◌, Bool, true, ◌&&◌, ltb, List, [], ◌∷◌, ◌++◌, length, sym, refl, ap, ◌∙◌, add-zero, arith}
+use Rattle.std.proofs.lemmas.Bool.{and_from, and_parts, lt-ltb}
 use Rattle.lines.specs.declared.line.Prefix.{Prefix}
 use Rattle.lines.specs.declared.line.Prefix.TheVariants as single
 use Rattle.lines.specs.declared.line.Infix.{Infix}
@@ -11,21 +11,10 @@ use Rattle.lines.specs.Stands.{fits, well_formed}
 use Rattle.lines.specs.Tables.{leading_lines, closing_lines, middle_lines, ending_lines, leading_count, middle_count, before_last, lines}
 use Rattle.lines.proofs.Writing.{length_lines}
 
-both : (a b : Bool) → a ≡ true → b ≡ true → (a && b) ≡ true
-both a b p q = ap (λ v. v && b) p ∙ q
-
-pub and_left : (a b : Bool) → (a && b) ≡ true → a ≡ true
-and_left true b e = refl
-and_left false b e = e
-
-pub and_right : (a b : Bool) → (a && b) ≡ true → b ≡ true
-and_right true b e = e
-and_right false b e = let z : ◌≡◌ {A = ℕ} 0 1 = cc in absurd (omega arith)
-
 pub formed_append : (n k m : ℕ) (xs ys : List Line) → well_formed n k xs ≡ true → m ≡ k + length xs → well_formed n m ys ≡ true → well_formed n k (xs ++ ys) ≡ true
 formed_append n k m [] ys p e q = ap (λ v. well_formed n v ys) (sym (e ∙ add-zero k)) ∙ q
 formed_append n k m (x ∷ xs) ys p e q =
-    both (fits n k x) (well_formed n (suc k) (xs ++ ys)) (and_left _ _ p) (formed_append n (suc k) m xs ys (and_right _ _ p) (omega arith) q)
+    and_from (fits n k x) (well_formed n (suc k) (xs ++ ys)) (and_parts _ _ p).0 (formed_append n (suc k) m xs ys (and_parts _ _ p).1 (omega arith) q)
 
 formed_leading : (n k : ℕ) (o : Prefix) → well_formed n k (leading_lines o) ≡ true
 formed_leading n k single.Not = refl
@@ -37,10 +26,10 @@ formed_leading n k single.OG = refl
 formed_leading n k single.HG = refl
 
 above : (i k : ℕ) (b : Bool) → i < k → b ≡ true → (ltb i k && b) ≡ true
-above i k b h e = both (ltb i k) b (lt-ltb i k h) e
+above i k b h e = and_from (ltb i k) b (lt-ltb i k h) e
 
 two_above : (i j k : ℕ) (b : Bool) → i < k → j < k → b ≡ true → ((ltb i k && ltb j k) && b) ≡ true
-two_above i j k b h l e = both (ltb i k && ltb j k) b (both (ltb i k) (ltb j k) (lt-ltb i k h) (lt-ltb j k l)) e
+two_above i j k b h l e = and_from (ltb i k && ltb j k) b (and_from (ltb i k) (ltb j k) (lt-ltb i k h) (lt-ltb j k l)) e
 
 -- the lines behind a part whose last line is i, where line m comes next
 formed_closing : (n k i m : ℕ) (o : Prefix) → m ≡ i + 1 → k ≤ i → well_formed n m (closing_lines o k i) ≡ true
@@ -74,7 +63,7 @@ length_middle pair.Or i = refl
 length_middle pair.Implies i = refl
 
 pub formed_lines : (n k : ℕ) (f : Form) → declared n f ≡ true → well_formed n k (lines k f) ≡ true
-formed_lines n k (atom i) d = both _ true d refl
+formed_lines n k (atom i) d = and_from _ true d refl
 formed_lines n k no d = refl
 formed_lines n k yes d = refl
 formed_lines n k (prefixed o f) d =
@@ -86,7 +75,7 @@ formed_lines n k (joined o f g) d =
     let i = k + before_last f in
     let l = i + 1 + middle_count o in
     let j = l + before_last g in
-    formed_append n k (i + 1) (lines k f) _ (formed_lines n k f (and_left _ _ d)) (omega (arith, length_lines k f)) (
+    formed_append n k (i + 1) (lines k f) _ (formed_lines n k f (and_parts _ _ d).0) (omega (arith, length_lines k f)) (
     formed_append n (i + 1) l (middle_lines o i) _ (formed_middle n i (i + 1) o refl) (omega (arith, length_middle o i)) (
-    formed_append n l (j + 1) (lines l g) _ (formed_lines n l g (and_right _ _ d)) (omega (arith, length_lines l g)) (
+    formed_append n l (j + 1) (lines l g) _ (formed_lines n l g (and_parts _ _ d).1) (omega (arith, length_lines l g)) (
     formed_ending n (i + middle_count o) j (j + 1) o refl (omega arith))))

@@ -1,6 +1,6 @@
 -- What it takes to write the lines of a form into a table that keeps the first 128.
 use Rattle.std.proofs.Common.{◌≡◌, ℕ, zero, suc, ◌+◌, ◌<◌, ◌≤◌, ◌⊎◌, List, [], ◌∷◌, ◌++◌, length, take, set, sym, refl, ap, ◌∙◌, inl, inr, arith}
-use Rattle.std.proofs.lemmas.List.{append-nil, append_assoc, take_all, take_at, take_more_set, length-append, length-take-le}
+use Rattle.std.proofs.lemmas.List.{append-nil, append_assoc, take_all, take_at, take_more_set, length-append, length-take, length-take-le}
 use Rattle.lines.specs.declared.line.Prefix.{Prefix}
 use Rattle.lines.specs.declared.line.Prefix.TheVariants as single
 use Rattle.lines.specs.declared.line.Infix.{Infix}
@@ -11,11 +11,6 @@ use Rattle.lines.specs.Forms.{Form, atom, yes, no, prefixed, joined}
 use Rattle.lines.specs.Tables.{leading_lines, closing_lines, middle_lines, ending_lines, leading_count, closing_count, middle_count, ending_count, before_last, lines}
 use Rattle.lines.specs.Written.{Adds, Written}
 
-length_take_most : {X : Type 0} (n : ℕ) (xs : List X) → length (take n xs) ≤ length xs
-length_take_most zero xs = omega arith
-length_take_most (suc n) [] = omega arith
-length_take_most (suc n) (x ∷ xs) = let h = length_take_most n xs in omega arith
-
 pub take_on : {X : Type 0} (n : ℕ) (xs ys : List X) → take n (take n xs ++ ys) ≡ take n (xs ++ ys)
 take_on zero xs ys = refl
 take_on (suc n) [] ys = refl
@@ -23,7 +18,7 @@ take_on (suc n) (x ∷ xs) ys = ap (λ l. x ∷ l) (take_on n xs ys)
 
 -- nothing is added
 pub stays : (xs ls : List Line) (n : ℕ) → length xs ≡ 128 → ls ≡ [] → Adds (take n xs) ls (take n xs)
-stays xs ls n all none = record { is = sym (ap (λ l. take 128 (take n xs ++ l)) none ∙ ap (take 128) (append-nil (take n xs)) ∙ take_all 128 (take n xs) (omega (arith, length_take_most n xs))) }
+stays xs ls n all none = record { is = sym (ap (λ l. take 128 (take n xs ++ l)) none ∙ ap (take 128) (append-nil (take n xs)) ∙ take_all 128 (take n xs) (omega (arith, length-take n xs))) }
 
 -- a line is kept, or comes too late
 pub added_kept : (xs : List Line) (n : ℕ) (x : Line) → length xs ≡ 128 → n < 128 → Adds (take n xs) (x ∷ []) (take (n + 1) (set xs n x))
@@ -42,9 +37,6 @@ both {xs} {us} {ys} {bs} {zs} e f = record { is = f.is ∙ ap (λ l. take 128 (l
 
 pub as_same : {xs ys us bs : List Line} → Adds xs us ys → us ≡ bs → Adds xs bs ys
 as_same {xs} {ys} {us} {bs} e f = record { is = e.is ∙ ap (λ l. take 128 (xs ++ l)) f }
-
-pub three : (f g : ℕ → Line) {xs ys zs vs : List Line} {a : Line} {x y : ℕ} (i : ℕ) → Adds xs (a ∷ []) ys → Adds ys (f x ∷ []) zs → Adds zs (g y ∷ []) vs → x ≡ i + 1 → y ≡ i + 2 → Adds xs (a ∷ f (i + 1) ∷ g (i + 2) ∷ []) vs
-three f g {xs} {ys} {zs} {vs} {a} {x} {y} i e h k p q = as_same (both (both e h) k) (ap (λ v. a ∷ f v ∷ g y ∷ []) p ∙ ap (λ v. a ∷ f (i + 1) ∷ g v ∷ []) q)
 
 -- the lines of one operation are few
 pub prefix_few : (o : Prefix) → (leading_count o + closing_count o ≤ 4) × (1 ≤ closing_count o)

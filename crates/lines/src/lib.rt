@@ -7,6 +7,8 @@
 #![tactic(auto)]
 
 ghost use Rattle.std.specs.Prelude.{◌≡◌, ℕ, ◌+◌, ◌<◌, ◌≤◌, true, List, [], ◌∷◌, length};
+ghost use Rattle.lines.specs.declared.line.Line.{Line};
+ghost use Rattle.lines.specs.declared.line.Line.TheVariants.{Not};
 ghost use Rattle.lines.specs.Policies.{lines_of, Makes, refusal_of};
 ghost use Rattle.lines.specs.Stands.{well_formed};
 ghost use Rattle.lines.specs.Tables.{leading_lines, closing_lines, middle_lines, ending_lines, leading_count, closing_count, middle_count, ending_count};
@@ -33,7 +35,7 @@ impl Table {
         ensures lines { kept_lines result ≡ [] }
     {
         Table {
-            kept: [Line::No; 128],
+            kept: [Line::No; MOST_LINES as usize],
             count: 0,
         }
     }
@@ -58,6 +60,21 @@ impl Table {
         }
         self.count = at + 1;
         at
+    }
+
+    /// Writes the three lines of `~(f op ~g)`, where `line` makes that of `op` and f and g end with these lines. Says
+    /// the number of the last one.
+    fn add_negated<F: FnOnce(u16, u16) -> Line>(&mut self, line: F, first: u16, last: u16) -> u16
+        requires call { F.IsAlwaysCallable line }
+        requires few { self.old.count < 64000 }
+        requires last { last + 1 ≡ self.old.count }
+        ensures value { result ≡ last + 3 }
+        ensures count { self.new.count ≡ self.old.count + 3 }
+        ensures lines { (op : Line) × F.post line first (last + 1) op × Adds (kept_lines self.old) (Not last ∷ op ∷ Not (last + 2) ∷ []) (kept_lines self.new) }
+    {
+        let not = self.add(Line::Not(last));
+        let joined = self.add(line(first, not));
+        self.add(Line::Not(joined))
     }
 
     /// Writes what a prefix has before the lines of its part, and says the number of its first line.
@@ -88,16 +105,8 @@ impl Table {
             Prefix::YG => self.add(Line::YG(last)),
             Prefix::OL => self.add(Line::SL(first, last)),
             Prefix::OG => self.add(Line::SG(first, last)),
-            Prefix::HL => {
-                let not = self.add(Line::Not(last));
-                let since = self.add(Line::SL(first, not));
-                self.add(Line::Not(since))
-            }
-            Prefix::HG => {
-                let not = self.add(Line::Not(last));
-                let since = self.add(Line::SG(first, not));
-                self.add(Line::Not(since))
-            }
+            Prefix::HL => self.add_negated(Line::SL, first, last),
+            Prefix::HG => self.add_negated(Line::SG, first, last),
         }
     }
 
@@ -129,26 +138,21 @@ impl Table {
             Infix::SL => self.add(Line::SL(left, last)),
             Infix::SG => self.add(Line::SG(left, last)),
             Infix::Or | Infix::Implies => self.add(Line::Or(left, last)),
-            Infix::And => {
-                let not = self.add(Line::Not(last));
-                let or = self.add(Line::Or(left, not));
-                self.add(Line::Not(or))
-            }
+            Infix::And => self.add_negated(Line::Or, left, last),
         }
     }
 }
 
-impl LineFault {
-    /// The fault's row in the refusal table.
-    pub fn refusal(&self) -> Refusal
-        ensures { result ≡ refusal_of self.now }
-    {
-        match *self {
-            LineFault::ManyLines(place) => Refusal {
-                number: 9,
-                layer: Layer::Lines,
-                place,
-            },
+/// The fault's row in the refusal table.
+impl From<LineFault> for Refusal {
+    ghost from_gives = { λ f r. r ≡ refusal_of f };
+
+    fn from(fault: LineFault) -> Refusal {
+        let LineFault::ManyLines(place) = fault;
+        Refusal {
+            number: 9,
+            layer: Layer::Lines,
+            place,
         }
     }
 }
@@ -179,7 +183,6 @@ impl Policy {
     pub fn lines(&self) -> &[Line]
         ensures { result.now ≡ lines_of self.now }
     {
-        let count = self.table.count as usize;
-        &self.table.kept[0..count]
+        &self.table.kept[..self.table.count as usize]
     }
 }

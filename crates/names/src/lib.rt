@@ -9,7 +9,6 @@ ghost use Rattle.grammar.specs.Machine.{name_limit};
 ghost use Rattle.names.specs.Names.{span_bytes, names_of, lookup, declared_answer, declared_names};
 
 use grammar::GrammarFault;
-use signs::same_bytes;
 
 mod span;
 mod table;
@@ -25,12 +24,7 @@ impl Span {
     pub fn bytes<'a>(self, text: &'a [u8]) -> &'a [u8]
         ensures { result.now ≡ span_bytes text.now self }
     {
-        let Span { from, to } = self;
-        if from <= to && to <= text.len() {
-            &text[from..to]
-        } else {
-            b""
-        }
+        text.get(self.from..self.to).unwrap_or(b"")
     }
 }
 
@@ -40,7 +34,7 @@ impl Names {
         ensures { result.count ≡ 0 }
     {
         Names {
-            spans: [Span { from: 0, to: 0 }; 32],
+            spans: [Span { from: 0, to: 0 }; MOST_ATOMS as usize],
             count: 0,
         }
     }
@@ -56,13 +50,10 @@ impl Names {
     pub fn find(&self, text: &[u8], word: &[u8]) -> Option<u8>
         ensures { result ≡ lookup (names_of text.now self.now) word.now }
     {
-        for i in 0..self.count {
-            let span = self.spans[i as usize];
-            if same_bytes(span.bytes(text), word) {
-                return Some(i);
-            }
-        }
-        None
+        self.spans[..self.count as usize]
+            .iter()
+            .position(|span| span.bytes(text) == word)
+            .map(|i| i as u8)
     }
 
     /// One atom more, whose name is this part of the text. It is refused if it is declared already or the 33rd;
@@ -71,7 +62,7 @@ impl Names {
         ensures value { result ≡ declared_answer (name_limit (names_of text.now self.old) (span_bytes text.now name) name.from) }
         ensures after { names_of text.now self.new ≡ declared_names (names_of text.now self.old) (span_bytes text.now name) (name_limit (names_of text.now self.old) (span_bytes text.now name) name.from) }
     {
-        if let Some(_) = self.find(text, name.bytes(text)) {
+        if self.find(text, name.bytes(text)).is_some() {
             return Err(GrammarFault::Repeated(name.from));
         }
         if self.count >= MOST_ATOMS {

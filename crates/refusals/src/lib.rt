@@ -17,9 +17,11 @@ impl fmt::Display for Refusal {
     ghost output = { λ r. Some (written r) };
 
     fn fmt<W: fmt::Write>(&self, f: &mut fmt::Formatter<W>) -> fmt::Result {
-        let number = self.number;
-        let layer = self.layer as u8;
-        let place = self.place;
-        write!(f, "refused {number} layer {layer} place {place}")
+        let Refusal {
+            number,
+            layer,
+            place,
+        } = *self;
+        write!(f, "refused {number} layer {} place {place}", layer as u8)
     }
 }

@@ -14,6 +14,7 @@ pub enum Layer {
 /// Why an input is refused: a row of the refusal table (`number`), the layer that found it, and where.
 #[derive(Clone, Copy, PartialEq, Eq, Debug)]
 pub struct Refusal {
+    // The row of the table as it is printed; which kinds of fault there are is said by each layer's own enum.
     pub number: u8,
     pub layer: Layer,
     pub place: usize,

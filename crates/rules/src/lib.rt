@@ -25,33 +25,22 @@ const MOST_OPEN: u8 = 32;
 pub fn is_mark(sign: Sign<'_>, mark: Mark) -> bool
     ensures { result ≡ is_mark mark (kind_of sign.entry) }
 {
-    match sign {
-        Sign::Mark(m) => mark.is(m),
-        Sign::Name(_) => false,
-        Sign::End => false,
-    }
+    sign == Sign::Mark(mark)
 }
 
 /// The prefix that the sign is.
 fn prefix_of(sign: Sign<'_>) -> Option<Prefix>
     ensures { result ≡ prefix_of (kind_of sign.entry) }
 {
-    if is_mark(sign, Mark::Not) {
-        Some(Prefix::Not)
-    } else if is_mark(sign, Mark::YL) {
-        Some(Prefix::YL)
-    } else if is_mark(sign, Mark::OL) {
-        Some(Prefix::OL)
-    } else if is_mark(sign, Mark::HL) {
-        Some(Prefix::HL)
-    } else if is_mark(sign, Mark::YG) {
-        Some(Prefix::YG)
-    } else if is_mark(sign, Mark::OG) {
-        Some(Prefix::OG)
-    } else if is_mark(sign, Mark::HG) {
-        Some(Prefix::HG)
-    } else {
-        None
+    match sign {
+        Sign::Mark(Mark::Not) => Some(Prefix::Not),
+        Sign::Mark(Mark::YL) => Some(Prefix::YL),
+        Sign::Mark(Mark::OL) => Some(Prefix::OL),
+        Sign::Mark(Mark::HL) => Some(Prefix::HL),
+        Sign::Mark(Mark::YG) => Some(Prefix::YG),
+        Sign::Mark(Mark::OG) => Some(Prefix::OG),
+        Sign::Mark(Mark::HG) => Some(Prefix::HG),
+        _ => None,
     }
 }
 
@@ -59,11 +48,9 @@ fn prefix_of(sign: Sign<'_>) -> Option<Prefix>
 fn since_of(sign: Sign<'_>) -> Option<Infix>
     ensures { result ≡ since_of (kind_of sign.entry) }
 {
-    if is_mark(sign, Mark::SL) {
-        Some(Infix::SL)
-    } else if is_mark(sign, Mark::SG) {
-        Some(Infix::SG)
-    } else {
-        None
+    match sign {
+        Sign::Mark(Mark::SL) => Some(Infix::SL),
+        Sign::Mark(Mark::SG) => Some(Infix::SG),
+        _ => None,
     }
 }

@@ -5,18 +5,18 @@ use Rattle.std.specs.List.{prefix_len}
 use Rattle.std.specs.Str.{bytes_eq}
 use Rattle.std.proofs.lemmas.List.{get_or-drop, get_or-take, get_or_past}
 use Rattle.std.proofs.lemmas.Slice.Eq.{bytes_eq-Decides}
-use Rattle.std.proofs.lemmas.Bool.{cases_lt, leb-true, leb-false}
+use Rattle.std.proofs.lemmas.Bool.{cases_lt, cond_both, leb-true, leb-false}
 use Rattle.std.proofs.lemmas.Bool.Decides.{nat_tests, not_from_Decides}
 use Rattle.signs.specs.declared.sign.Mark.{Mark}
 use Rattle.signs.specs.declared.sign.Mark.TheVariants.{Open, Close, Not, And, Or, Arrow, Comma, Semicolon, Stop, YL, SL, OL, HL, YG, SG, OG, HG, Atoms, Rule, True, False}
 use Rattle.signs.specs.Marks.{mark_spelling}
-use Rattle.signs.specs.Signs.{is_blank, is_letter, is_name_byte, Kind, mark, name, end, mark_at, word_of, found, found_mark, found_at, next_sign}
+use Rattle.signs.specs.Signs.{is_blank, is_letter, is_name_byte, Kind, mark, name, end, Found, mark_at, word_of, found, found_mark, found_at, next_sign}
 use Rattle.signs.specs.Stands.{spelling, part, Blanks, Word, Whole, Stands, sign_stands, no_sign, long_name}
-use Rattle.signs.proofs.Stretches.{by_cond, Stretch, stretch}
+use Rattle.signs.proofs.Stretches.{Stretch, stretch}
 
 -- a test on numbers, by its two cases
 by_eq : {A : Type 0} (P : A → Type 0) (a b : ℕ) (x y : A) → (a ≡ b → P x) → P y → P (cond (eqb a b) x y)
-by_eq P a b x y t f = by_cond P (eqb a b) x y (λ e. t (grind (arith, nat_tests))) (λ _. f)
+by_eq P a b x y t f = cond_both (eqb a b) x y P (λ e. t (grind (arith, nat_tests))) (λ _. f)
 
 -- what a mark that begins with the byte b before the byte a is spelled
 abbrev Spells : ℕ → ℕ → Option (Mark × ℕ) → Type 0
@@ -63,10 +63,10 @@ part_second : (text : List ℕ) (f n : ℕ) {w : List ℕ} → part text f (f + 
 part_second text f n e h = sym (part_get_or text f n 1 h) ∙ ap (λ v. get_or v 1 0) e
 
 clash : {A : Type 0} {o : Option A} {x : A} → o ≡ Some x → o ≡ None → ⊥
-clash p q = let z : ◌≡◌ {A = ℕ} 0 1 = cc in omega arith
+clash p q = cc
 
 differ : {b : Bool} → b ≡ true → b ≡ false → ⊥
-differ p q = let z : ◌≡◌ {A = ℕ} 0 1 = cc in omega arith
+differ p q = cc
 
 -- where no mark is found, none is spelled
 module _ (text : List ℕ) (f : ℕ) (low : is_letter (get_or text f 0) ≡ false) (bare : mark_at (get_or text f 0) (get_or text (f + 1) 0) ≡ None) where
@@ -147,7 +147,7 @@ module _ (text : List ℕ) (at f : ℕ) (blanks : Stretch is_blank text at f) wh
   module _ (e : ℕ) (first : is_letter (get_or text f 0) ≡ true) (word : Word text f e) (short : e ≤ f + 16) where
     reserved : (m : Mark) (r : Kind) → (bytes_eq (part text f e) (mark_spelling m) ≡ false → Stands text at (found r f e)) → Stands text at (found (cond (bytes_eq (part text f e) (mark_spelling m)) (mark m) r) f e)
     reserved m r other =
-        by_cond (λ k. Stands text at (found k f e)) (bytes_eq (part text f e) (mark_spelling m)) (mark m) r
+        cond_both (bytes_eq (part text f e) (mark_spelling m)) (mark m) r (λ k. Stands text at (found k f e))
         (λ same. sign_stands (blanks_of text at blanks) (omega (arith, word.order)) word.within ((bytes_eq-Decides (part text f e) (mark_spelling m)).0 same) (λ _. word))
         other
 
@@ -200,13 +200,13 @@ module _ (text : List ℕ) (at f : ℕ) (blanks : Stretch is_blank text at f) wh
 
   stands_at : Stands text at (found_at text f)
   stands_at =
-      by_cond (Stands text at) (leb (length text) f) _ _
+      cond_both (leb (length text) f) _ _ (Stands text at)
       (λ past. let last : f ≡ length text = omega (arith, leb-true _ _ past, blanks.within) in
       sign_stands (blanks_of text at blanks) (omega arith) (omega arith) (ap (λ v. take v (drop f text)) (sub_self f)) last)
       (λ before. let h : f < length text = leb-false _ _ before in
-      by_cond (Stands text at) (is_letter (get_or text f 0)) _ _
+      cond_both (is_letter (get_or text f 0)) _ _ (Stands text at)
       (λ first. let s = stretch is_name_byte text f (omega arith) in
-      by_cond (Stands text at) (ltb 16 (f + prefix_len is_name_byte (drop f text) - f)) _ _
+      cond_both (ltb 16 (f + prefix_len is_name_byte (drop f text) - f)) _ _ (Stands text at)
       (λ long. long_name (blanks_of text at blanks) (word_at first s h) (omega (arith, ltb-true, long)))
       (λ short. word_stands (f + prefix_len is_name_byte (drop f text)) first (word_at first s h) (omega (arith, ltb-false, short))))
       (λ low. mark_stands h low _ refl (mark_spells (get_or text f 0) (get_or text (f + 1) 0))))
@@ -214,6 +214,9 @@ module _ (text : List ℕ) (at f : ℕ) (blanks : Stretch is_blank text at f) wh
 -- After blanks from any place on stands what `next_sign` says.
 pub signs_stand : (text : List ℕ) (at : ℕ) → at ≤ length text → Stands text at (next_sign text at)
 signs_stand text at h = stands_at text at (at + prefix_len is_blank (drop at text)) (stretch is_blank text at h)
+
+pub found_stands : {text : List ℕ} {at : ℕ} {r : Found} → at ≤ length text → r ≡ next_sign text at → Stands text at r
+found_stands {text} {at} h e = subst (Stands text at) (sym e) (signs_stand text at h)
 
 -- a sign that stands ends in the text, behind the place that it was sought from
 pub record Onward (text : List ℕ) (at : ℕ) (k : Kind) (f e : ℕ) : Type 0 where
@@ -223,7 +226,7 @@ pub record Onward (text : List ℕ) (at : ℕ) (k : Kind) (f e : ℕ) : Type 0 w
   pub more : (k ≡ end → ⊥) → f < e
 
 some : {x : ℕ} {xs : List ℕ} → x ∷ xs ≡ [] → ⊥
-some e = let z : ◌≡◌ {A = ℕ} 0 1 = cc in omega arith
+some e = cc
 
 mark_some : (m : Mark) → mark_spelling m ≡ [] → ⊥
 mark_some Open e = some e

@@ -1,34 +1,8 @@
 -- The longest stretch of bytes that pass a test, from a place on.
-use Rattle.std.proofs.Common.{◌≡◌, ℕ, zero, suc, ◌+◌, ◌-◌, ◌<◌, ◌≤◌, Bool, true, false, cond, List, [], ◌∷◌, length, get_or, drop, refl, subst, inl, inr, arith, length-drop}
+use Rattle.std.proofs.Common.{◌≡◌, ℕ, ◌+◌, ◌-◌, ◌<◌, ◌≤◌, Bool, true, false, cond, List, length, get_or, drop, refl, subst, arith, length-drop}
 use Rattle.std.specs.List.{prefix_len}
 use Rattle.std.proofs.lemmas.List.{get_or-drop}
-use Rattle.std.proofs.lemmas.List.Sums.{prefix_len-le-length}
-use Rattle.std.proofs.lemmas.Bool.{cases_Bool, cond-true, cond-false}
-
--- a condition, by its two cases
-pub by_cond : {A : Type 0} (P : A → Type 0) (b : Bool) (x y : A) → (b ≡ true → P x) → (b ≡ false → P y) → P (cond b x y)
-by_cond P true x y t f = t refl
-by_cond P false x y t f = f refl
-
-pub leading_each : (p : ℕ → Bool) (xs : List ℕ) (i : ℕ) → i < prefix_len p xs → p (get_or xs i 0) ≡ true
-leading_each p [] i h = absurd (omega arith)
-leading_each p (x ∷ xs) zero h =
-    elim (cases_Bool (p x)) [ inl t ↦ t | inr f ↦ let z : cond (p x) (1 + prefix_len p xs) 0 ≡ 0 = cond-false _ _ _ f in absurd (omega arith) ]
-leading_each p (x ∷ xs) (suc i) h =
-    elim (cases_Bool (p x)) [
-      | inl t ↦ let z : cond (p x) (1 + prefix_len p xs) 0 ≡ 1 + prefix_len p xs = cond-true _ _ _ t in leading_each p xs i (omega arith)
-      | inr f ↦ let z : cond (p x) (1 + prefix_len p xs) 0 ≡ 0 = cond-false _ _ _ f in absurd (omega arith)
-    ]
-
-pub leading_stop : (p : ℕ → Bool) (xs : List ℕ) (i : ℕ) → i ≡ prefix_len p xs → i < length xs → p (get_or xs i 0) ≡ false
-leading_stop p [] i e h = absurd (omega arith)
-leading_stop p (x ∷ xs) zero e h =
-    elim (cases_Bool (p x)) [ inl t ↦ let z : cond (p x) (1 + prefix_len p xs) 0 ≡ 1 + prefix_len p xs = cond-true _ _ _ t in absurd (omega arith) | inr f ↦ f ]
-leading_stop p (x ∷ xs) (suc i) e h =
-    elim (cases_Bool (p x)) [
-      | inl t ↦ let z : cond (p x) (1 + prefix_len p xs) 0 ≡ 1 + prefix_len p xs = cond-true _ _ _ t in leading_stop p xs i (omega arith) (omega arith)
-      | inr f ↦ let z : cond (p x) (1 + prefix_len p xs) 0 ≡ 0 = cond-false _ _ _ f in absurd (omega arith)
-    ]
+use Rattle.std.proofs.lemmas.List.Sums.{prefix_len-le-length, prefix_len_passes, prefix_len_stops}
 
 -- from a up to b, and no further, each byte passes
 pub record Stretch (p : ℕ → Bool) (xs : List ℕ) (a b : ℕ) : Type 0 where
@@ -43,6 +17,6 @@ stretch p xs a h =
     record {
       order = omega arith;
       within = omega arith;
-      each = λ i l u. let j : a + (i - a) ≡ i = omega arith in subst (λ v. p (get_or xs v 0) ≡ true) j (subst (λ v. p v ≡ true) (get_or-drop a xs (i - a) 0) (leading_each p (drop a xs) (i - a) (omega arith)));
-      stop = λ l. subst (λ v. p v ≡ false) (get_or-drop a xs (prefix_len p (drop a xs)) 0) (leading_stop p (drop a xs) (prefix_len p (drop a xs)) refl (omega (arith, length-drop a xs)));
+      each = λ i l u. let j : a + (i - a) ≡ i = omega arith in subst (λ v. p (get_or xs v 0) ≡ true) j (subst (λ v. p v ≡ true) (get_or-drop a xs (i - a) 0) (prefix_len_passes p (drop a xs) (i - a) 0 (omega arith)));
+      stop = λ l. subst (λ v. p v ≡ false) (get_or-drop a xs (prefix_len p (drop a xs)) 0) (prefix_len_stops p (drop a xs) 0 (omega (arith, length-drop a xs)));
     }

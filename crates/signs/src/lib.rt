@@ -5,11 +5,9 @@
 //! the law of signs (specs/Stands.antt). Rests on `refusals`.
 #![tactic(auto)]
 
-ghost use Rattle.std.specs.Prelude.{◌≡◌, ℕ, ◌+◌, ◌<◌, ◌≤◌, length, drop, IfSome, slice_index};
+ghost use Rattle.std.specs.Prelude.{◌≡◌, ℕ, ◌<◌, ◌≤◌, Bool, length, IfSome, slice_index};
 ghost use Rattle.std.specs.List.{prefix_len};
-ghost use Rattle.std.specs.Str.{bytes_eq};
-ghost use Rattle.signs.specs.Marks.{same_mark};
-ghost use Rattle.signs.specs.Signs.{is_blank, is_name_byte, kind_of, mark_at, word_of, length_answer, found_at, next_sign, told, place_after, refusal_of};
+ghost use Rattle.signs.specs.Signs.{Answers, is_blank, is_name_byte, kind_of, mark_at, word_of, length_answer, found_at, next_sign, told, place_after, refusal_of};
 ghost use Rattle.signs.specs.Stands.{Stands};
 
 use refusals::{Layer, Refusal};
@@ -26,27 +24,20 @@ pub const MOST_BYTES: usize = 8192;
 /// The most bytes that a name may have.
 const MOST_NAME_BYTES: usize = 16;
 
-impl SignFault {
-    /// The fault's row in the refusal table.
-    pub fn refusal(&self) -> Refusal
-        ensures { result ≡ refusal_of self.now }
-    {
-        match *self {
-            SignFault::TooLong => Refusal {
-                number: 1,
-                layer: Layer::Signs,
-                place: MOST_BYTES,
-            },
-            SignFault::NoSign(place) => Refusal {
-                number: 2,
-                layer: Layer::Signs,
-                place,
-            },
-            SignFault::LongName(place) => Refusal {
-                number: 4,
-                layer: Layer::Signs,
-                place,
-            },
+/// The fault's row in the refusal table.
+impl From<SignFault> for Refusal {
+    ghost from_gives = { λ f r. r ≡ refusal_of f };
+
+    fn from(fault: SignFault) -> Refusal {
+        let (number, place) = match fault {
+            SignFault::TooLong => (1, MOST_BYTES),
+            SignFault::NoSign(place) => (2, place),
+            SignFault::LongName(place) => (4, place),
+        };
+        Refusal {
+            number,
+            layer: Layer::Signs,
+            place,
         }
     }
 }
@@ -61,15 +52,6 @@ pub fn check_length(text: &[u8]) -> Result<(), SignFault>
     Ok(())
 }
 
-impl Mark {
-    /// Whether the two are one mark.
-    pub fn is(self, other: Mark) -> bool
-        ensures { result ≡ same_mark self other }
-    {
-        self as u8 == other as u8
-    }
-}
-
 fn blank(b: u8) -> bool
     ensures { result ≡ is_blank b }
 {
@@ -82,30 +64,13 @@ fn name_byte(b: u8) -> bool
     matches!(b, b'a'..=b'z' | b'0'..=b'9')
 }
 
-/// The first place from `at` on that has no blank.
-fn skip_blanks(text: &[u8], at: usize) -> usize
-    requires { at ≤ length text.now }
-    ensures value { result ≡ at + prefix_len is_blank (drop at text.now) }
-    ensures within { result ≤ length text.now }
+/// How many bytes pass the test before the first that does not.
+fn leading<F: Fn(u8) -> bool>(bytes: &[u8], passes: F) -> usize
+    requires { F.IsAlwaysCallable passes }
+    ensures value { (p : ℕ → Bool) → Answers (F.post passes) p → result ≡ prefix_len p bytes.now }
+    ensures within { result ≤ length bytes.now }
 {
-    let mut from = at;
-    while from < text.len() && blank(text[from]) {
-        from += 1;
-    }
-    from
-}
-
-/// The place behind the name's bytes from `at` on.
-fn word_end(text: &[u8], at: usize) -> usize
-    requires { at ≤ length text.now }
-    ensures value { result ≡ at + prefix_len is_name_byte (drop at text.now) }
-    ensures within { result ≤ length text.now }
-{
-    let mut end = at;
-    while end < text.len() && name_byte(text[end]) {
-        end += 1;
-    }
-    end
+    bytes.iter().take_while(|&&b| passes(b)).count()
 }
 
 /// The mark that begins with `b`, before the byte `after`, and its length.
@@ -135,27 +100,16 @@ fn mark(b: u8, after: u8) -> Option<(Mark, usize)>
     }
 }
 
-/// Whether the two have the same bytes.
-pub fn same_bytes(a: &[u8], b: &[u8]) -> bool
-    ensures { result ≡ bytes_eq a.now b.now }
-{
-    a == b
-}
-
 /// The sign that the bytes of a word are.
 fn word<'a>(text: &'a [u8]) -> Sign<'a>
     ensures { kind_of result ≡ word_of text.now }
 {
-    if same_bytes(text, b"atoms") {
-        Sign::Mark(Mark::Atoms)
-    } else if same_bytes(text, b"rule") {
-        Sign::Mark(Mark::Rule)
-    } else if same_bytes(text, b"true") {
-        Sign::Mark(Mark::True)
-    } else if same_bytes(text, b"false") {
-        Sign::Mark(Mark::False)
-    } else {
-        Sign::Name(text)
+    match text {
+        b"atoms" => Sign::Mark(Mark::Atoms),
+        b"rule" => Sign::Mark(Mark::Rule),
+        b"true" => Sign::Mark(Mark::True),
+        b"false" => Sign::Mark(Mark::False),
+        _ => Sign::Name(text),
     }
 }
 
@@ -164,7 +118,7 @@ fn byte_at(text: &[u8], i: usize) -> u8
     ensures value { result ≡ slice_index text.now i }
     ensures past { length text.now ≤ i → result ≡ 0 }
 {
-    if i < text.len() { text[i] } else { 0 }
+    text.get(i).copied().unwrap_or(0)
 }
 
 /// The sign at the place `from`, which has no blank and lies in the text.
@@ -174,7 +128,7 @@ fn sign_from<'a>(text: &'a [u8], from: usize) -> Result<Placed<'a>, SignFault>
 {
     let b = text[from];
     if b.is_ascii_lowercase() {
-        let to = word_end(text, from);
+        let to = from + leading(&text[from..], name_byte);
         if to - from > MOST_NAME_BYTES {
             return Err(SignFault::LongName(from));
         }
@@ -184,14 +138,12 @@ fn sign_from<'a>(text: &'a [u8], from: usize) -> Result<Placed<'a>, SignFault>
             to,
         });
     }
-    match mark(b, byte_at(text, from + 1)) {
-        Some((m, len)) => Ok(Placed {
-            sign: Sign::Mark(m),
-            from,
-            to: from + len,
-        }),
-        None => Err(SignFault::NoSign(from)),
-    }
+    let (m, len) = mark(b, byte_at(text, from + 1)).ok_or(SignFault::NoSign(from))?;
+    Ok(Placed {
+        sign: Sign::Mark(m),
+        from,
+        to: from + len,
+    })
 }
 
 /// The next sign from the place `at` on.
@@ -199,7 +151,7 @@ fn sign_at<'a>(text: &'a [u8], at: usize) -> Result<Placed<'a>, SignFault>
     requires { at ≤ length text.now }
     ensures { told result ≡ next_sign text.now at }
 {
-    let from = skip_blanks(text, at);
+    let from = at + leading(&text[at..], blank);
     if from == text.len() {
         return Ok(Placed {
             sign: Sign::End,
@@ -227,16 +179,15 @@ impl<'a> Reader<'a> {
     }
 
     /// The next sign with its places; the reader then stands behind it. At a fault it stays.
+    // No Iterator: this never ends, since at the text's end the sign End comes again and again.
     pub fn next(&mut self) -> Result<Placed<'a>, SignFault>
         ensures value { told result ≡ next_sign self.old.text.now self.old.at }
         ensures stands { Stands self.old.text.now self.old.at (told result) }
         ensures text { self.new.text.now ≡ self.old.text.now }
         ensures place { self.new.at ≡ place_after self.old.at (told result) }
     {
-        let found = sign_at(self.text, self.at);
-        if let Ok(placed) = found {
-            self.at = placed.to;
-        }
-        found
+        let placed = sign_at(self.text, self.at)?;
+        self.at = placed.to;
+        Ok(placed)
     }
 }

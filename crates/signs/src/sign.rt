@@ -1,7 +1,7 @@
 //! What a policy text is made of.
 
 /// A sign with one spelling.
-#[derive(Clone, Copy)]
+#[derive(Clone, Copy, PartialEq, Eq, Debug)]
 pub enum Mark {
     Open,
     Close,
@@ -27,7 +27,7 @@ pub enum Mark {
 }
 
 /// A sign (a token): a mark, a name as a part of the text, or the end of the text.
-#[derive(Clone, Copy)]
+#[derive(Clone, Copy, PartialEq, Eq, Debug)]
 pub enum Sign<'a> {
     Mark(Mark),
     Name(&'a [u8]),
@@ -35,7 +35,7 @@ pub enum Sign<'a> {
 }
 
 /// A sign, its first byte's place and the place behind it.
-#[derive(Clone, Copy)]
+#[derive(Clone, Copy, PartialEq, Eq, Debug)]
 pub struct Placed<'a> {
     pub sign: Sign<'a>,
     pub from: usize,

@@ -1,6 +1,6 @@
 -- What is read is what the text means, and is right.
 use Rattle.std.proofs.Common.{◌≡◌, ℕ, zero, suc, ◌<◌, ◌≤◌, true, ◌&&◌, List, [], ◌∷◌, length, take, Ok, Err, sym, refl, ap, ◌∙◌, subst, arith}
-use Rattle.std.proofs.lemmas.Bool.{cond-true, cond-false, lt-ltb, le-ltb}
+use Rattle.std.proofs.lemmas.Bool.{and_parts, cond-true, cond-false, lt-ltb, le-ltb}
 use Rattle.lines.specs.declared.fault.LineFault.TheVariants.{ManyLines}
 use Rattle.lines.specs.declared.line.Line.{Line}
 use Rattle.lines.specs.declared.policy.Policy.{Policy}
@@ -9,7 +9,7 @@ use Rattle.lines.specs.Policies.{lines_of}
 use Rattle.lines.specs.Stands.{well_formed}
 use Rattle.lines.specs.Tables.{lines, table}
 use Rattle.lines.specs.Written.{kept_lines}
-use Rattle.lines.proofs.Formed.{and_left, and_right, formed_lines}
+use Rattle.lines.proofs.Formed.{formed_lines}
 use Rattle.lines.proofs.Writing.{length_lines, written_fits}
 use Rattle.grammar.specs.declared.fault.GrammarFault.{GrammarFault}
 use Rattle.grammar.specs.Machine.{accepted, outcome}
@@ -26,7 +26,7 @@ use Rattle.text.specs.Texts.{policy, no_policy, with_lines, meant, Right}
 formed_take : (n k m : ℕ) (ls : List Line) → well_formed n k ls ≡ true → well_formed n k (take m ls) ≡ true
 formed_take n k zero ls w = refl
 formed_take n k (suc m) [] w = refl
-formed_take n k (suc m) (l ∷ ls) w = ap (λ v. v && well_formed n (suc k) (take m ls)) (and_left _ _ w) ∙ formed_take n (suc k) m ls (and_right _ _ w)
+formed_take n k (suc m) (l ∷ ls) w = ap (λ v. v && well_formed n (suc k) (take m ls)) (and_parts _ _ w).0 ∙ formed_take n (suc k) m ls (and_parts _ _ w).1
 
 -- reading comes to what the law says
 comes_right : (t : List ℕ) {o : _} → outcome t ≡ o → Comes_to t o

@@ -38,15 +38,15 @@ abbrev long : Bool → Result (Unit {0}) SignFault
 long b = cond b (Err TooLong) (Ok tt)
 
 not_long : (b : Bool) (x y : Outcome) → Ok tt ≡ long b → cond b x y ≡ y
-not_long true x y e = let z : ◌≡◌ {A = ℕ} 0 1 = cc in absurd (omega arith)
+not_long true x y e = cc
 not_long false x y e = refl
 
 is_long : (b : Bool) (s : SignFault) (y : Outcome) → Err s ≡ long b → cond b (refused (faults.Sign TooLong)) y ≡ refused (faults.Sign s)
 is_long true s y e = let z : s ≡ TooLong = cc in ap (λ v. refused (faults.Sign v)) (sym z)
-is_long false s y e = let z : ◌≡◌ {A = ℕ} 0 1 = cc in absurd (omega arith)
+is_long false s y e = cc
 
 false_long : (b : Bool) → Ok tt ≡ long b → b ≡ false
-false_long true e = let z : ◌≡◌ {A = ℕ} 0 1 = cc in absurd (omega arith)
+false_long true e = cc
 false_long false e = refl
 
 pub upto_start : (p : Parser) → Fresh p → Ok tt ≡ length_answer (text_of p) → Upto p begun p
@@ -136,6 +136,6 @@ accepts {p} {q} {r} {s} {t} {u} {l} f n d same o stop {v} fin none empty comes =
 
 -- a sign that is not the end
 pub is_end : (s : Sign) → (s ≡ sign.End → ⊥) → kind_of s ≡ end → ⊥
-is_end (sign.Mark m) not e = let z : ◌≡◌ {A = ℕ} 0 1 = cc in omega arith
-is_end (sign.Name w) not e = let z : ◌≡◌ {A = ℕ} 0 1 = cc in omega arith
+is_end (sign.Mark m) not e = cc
+is_end (sign.Name w) not e = cc
 is_end sign.End not e = not refl

@@ -15,7 +15,7 @@ use lines::{Policy, Table};
 use names::{Names, Span};
 use refusals::{Layer, Refusal};
 use rules::{Parser, is_mark};
-use signs::{Mark, Reader, Sign, check_length};
+use signs::{Mark, Placed, Reader, Sign, check_length};
 
 mod fault;
 mod reading;
@@ -32,11 +32,10 @@ fn read_names(parser: &mut Parser<'_>) -> Result<(), GrammarFault>
         let Sign::Name(_) = placed.sign else {
             return Err(GrammarFault::Misfit(placed.from));
         };
-        let name = Span {
-            from: placed.from,
-            to: placed.to,
-        };
-        parser.names.declare(parser.reader.text(), name)?;
+        let Placed { from, to, .. } = placed;
+        parser
+            .names
+            .declare(parser.reader.text(), Span { from, to })?;
         let behind = parser.reader.next()?;
         if is_mark(behind.sign, Mark::Semicolon) {
             return Ok(());
@@ -60,6 +59,7 @@ fn expect(parser: &mut Parser<'_>, mark: Mark) -> Result<(), GrammarFault>
 }
 
 /// The end of the text, which has to come next.
+// Not `expect` of any sign: that two signs are `==` where they are one kind was tried, and the proof did not close.
 fn expect_end(parser: &mut Parser<'_>) -> Result<(), GrammarFault>
     ensures { EndRead parser.old parser.new result }
 {
@@ -105,14 +105,14 @@ pub fn read(text: &[u8]) -> Result<Reading, TextFault>
     })
 }
 
-impl TextFault {
-    /// The fault's row in the refusal table.
-    pub fn refusal(&self) -> Refusal
-        ensures { result ≡ refusal_of self.now }
-    {
-        match *self {
+/// The fault's row in the refusal table.
+impl From<TextFault> for Refusal {
+    ghost from_gives = { λ f r. r ≡ refusal_of f };
+
+    fn from(fault: TextFault) -> Refusal {
+        match fault {
             TextFault::Grammar(fault) => grammar_refusal(fault),
-            TextFault::Lines(fault) => fault.refusal(),
+            TextFault::Lines(fault) => fault.into(),
         }
     }
 }
@@ -121,7 +121,7 @@ fn grammar_refusal(fault: GrammarFault) -> Refusal
     ensures { result ≡ grammar_refusal fault }
 {
     let (number, place) = match fault {
-        GrammarFault::Sign(fault) => return fault.refusal(),
+        GrammarFault::Sign(fault) => return fault.into(),
         GrammarFault::Misfit(place) => (3, place),
         GrammarFault::Repeated(place) => (5, place),
         GrammarFault::ManyAtoms(place) => (7, place),
@@ -136,11 +136,12 @@ fn grammar_refusal(fault: GrammarFault) -> Refusal
 }
 
 /// What a program in C is told (the crate `text_c`): 0 if the text is a policy, else the number of its refusal.
+// A number, and no Result: the call for C hands it on as it is.
 pub fn policy_refusal(text: &[u8]) -> u8
     ensures { result ≡ number_of (meant text.now) }
 {
     match read(text) {
         Ok(_) => 0,
-        Err(fault) => fault.refusal().number,
+        Err(fault) => Refusal::from(fault).number,
     }
 }

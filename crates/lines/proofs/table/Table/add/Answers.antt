@@ -1,18 +1,13 @@
-use Rattle.std.proofs.Common.{◌≡◌, ◌+◌, [], ◌∷◌, length, take, sym, refl, subst}
+use Rattle.std.proofs.Common.{◌+◌, [], ◌∷◌, take, sym, subst}
 use Rattle.lines.specs.Written.{Adds}
 use Rattle.lines.proofs.Writing.{added_kept, added_late}
 use Rattle.lines.proofs.table.Table.add.Goals as goal
 use Rattle.lines.proofs.table.Table.add.Goals.{then-at-lt-MOST_LINES, else-at-lt-MOST_LINES}
 
-pub returns : goal.returns
-returns c =
+pub returns-clause-lines : goal.returns-clause-lines
+returns-clause-lines c =
     let t = c.args.self.now in
-    let all : length t.kept ≡ 128 = t.room in
-    record {
-      value = refl;
-      count = refl;
-      lines = elim c.if-at-lt-MOST_LINES.branch [
-        | then-at-lt-MOST_LINES w ↦ subst (λ s. Adds (take t.count t.kept) (c.args.line ∷ []) (take (t.count + 1) s.1.0)) (sym w.self-is) (added_kept t.kept t.count c.args.line all w.if-at-lt-MOST_LINES.true)
-        | else-at-lt-MOST_LINES w ↦ subst (λ s. Adds (take t.count t.kept) (c.args.line ∷ []) (take (t.count + 1) s.1.0)) (sym w.self-is) (added_late t.kept t.count c.args.line all w.if-at-lt-MOST_LINES.false)
-      ];
-    }
+    elim c.if-at-lt-MOST_LINES.branch [
+      | then-at-lt-MOST_LINES w ↦ subst (λ s. Adds (take t.count t.kept) (c.args.line ∷ []) (take (t.count + 1) s.1.0)) (sym w.self-is) (added_kept t.kept t.count c.args.line t.room w.if-at-lt-MOST_LINES.true)
+      | else-at-lt-MOST_LINES w ↦ subst (λ s. Adds (take t.count t.kept) (c.args.line ∷ []) (take (t.count + 1) s.1.0)) (sym w.self-is) (added_late t.kept t.count c.args.line t.room w.if-at-lt-MOST_LINES.false)
+    ]
