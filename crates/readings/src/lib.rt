@@ -10,6 +10,7 @@ ghost use Rattle.readings.specs.Written.{written};
 
 use crate::atoms::Atoms;
 use crate::rows::Rows;
+use refusals::Refusal;
 use std::fmt;
 
 mod atoms;
@@ -36,7 +37,7 @@ impl fmt::Display for AsRead<'_> {
                 let length = lines.len();
                 write!(f, "policy atoms {count}:{atoms} lines {length}:{rows}")
             }
-            Err(fault) => write!(f, "{}", fault.refusal()),
+            Err(fault) => write!(f, "{}", Refusal::from(fault)),
         }
     }
 }
