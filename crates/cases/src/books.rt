@@ -1,7 +1,7 @@
 //! Cases of books: each call alone, with the store's memory after it, and then the whole list at once.
-use crate::hex::decode;
-use crate::steps::{Step, parse_steps, print_answer};
-use crate::tables::{Table, print_table};
+use crate::steps::{Answered, Step, parse_steps};
+use crate::tables::{InMemory, print_table};
+use crate::words::Words;
 use anyhow::anyhow;
 use book::{Book, perform};
 use lines::Policy;
@@ -15,37 +15,33 @@ use stretch_store::StretchTable;
 
 /// A policy's text, as a policy.
 fn policy_of(text: &[u8]) -> anyhow::Result<Policy> {
-    match text::read(text) {
-        Ok(reading) => Ok(reading.policy),
-        Err(_) => Err(anyhow!("no policy")),
-    }
+    text::read(text)
+        .map(|reading| reading.policy)
+        .map_err(|_| anyhow!("no policy"))
 }
 
 /// An empty table of the width that the policy's records have.
-fn table_for<T: Table>(heap: Global, policy: &Policy, size: usize) -> anyhow::Result<T> {
+fn table_for<T: InMemory>(heap: Global, policy: &Policy, size: usize) -> anyhow::Result<T> {
     let width = 1 + policy.atoms() + 2 * policy.lines().len();
-    match T::make(vec![in heap; 255; size]?, width) {
-        Ok(table) => Ok(table),
-        Err(_) => Err(anyhow!("no table")),
-    }
+    T::make(vec![in heap; 255; size]?, width).map_err(|_| anyhow!("no table"))
 }
 
 /// Performs the calls one by one, and prints the memory after each.
-fn run_steps<W: Write + Drop, K: Scale + Drop, T: Table + Drop>(
+fn run_steps<W: Write + Drop, K: Scale + Drop, T: InMemory + Drop>(
     out: &mut BufWriter<W>,
+    heap: Global,
     mut book: Book<K, T>,
     steps: &[Step],
 ) -> anyhow::Result<()> {
     for step in steps {
-        let answer = book.answer(step.call());
-        print_answer(out, answer)?;
-        print_table(out, book.store())?;
+        write!(out, "{}", Answered(book.answer(step.call())))?;
+        print_table(out, heap, book.store())?;
     }
     Ok(())
 }
 
 /// Performs the calls as one list on another table, and prints all answers and the memory at the end.
-fn run_list<W: Write + Drop, K: Scale + Drop, T: Table + Drop>(
+fn run_list<W: Write + Drop, K: Scale + Drop, T: InMemory + Drop>(
     out: &mut BufWriter<W>,
     heap: Global,
     policy: Policy,
@@ -57,24 +53,13 @@ fn run_list<W: Write + Drop, K: Scale + Drop, T: Table + Drop>(
         return Err(anyhow!("no book"));
     };
     for answer in performed.answers.as_slice() {
-        print_answer(out, *answer)?;
-        write!(out, ", ")?;
+        write!(out, "{}, ", Answered(*answer))?;
     }
-    print_table(out, &performed.store)?;
-    Ok(())
-}
-
-/// The calls of the steps, as one list.
-fn list_of(heap: Global, steps: &[Step]) -> anyhow::Result<Vec<Call<'_>>> {
-    let mut calls = Vec::new(heap);
-    for step in steps {
-        calls.push(step.call())?;
-    }
-    Ok(calls)
+    print_table(out, heap, &performed.store)
 }
 
 /// Opens a book and performs the calls, one by one and as a list.
-fn run_book<W: Write + Drop, K: Scale + Copy, T: Table + Drop>(
+fn run_book<W: Write + Drop, K: Scale + Copy, T: InMemory + Drop>(
     out: &mut BufWriter<W>,
     heap: Global,
     policy: Policy,
@@ -87,8 +72,11 @@ fn run_book<W: Write + Drop, K: Scale + Copy, T: Table + Drop>(
     let Ok(book) = Book::open(heap, policy, scale, table) else {
         return Err(anyhow!("no book"));
     };
-    run_steps(out, book, steps.as_slice())?;
-    let calls = list_of(heap, steps.as_slice())?;
+    run_steps(out, heap, book, steps.as_slice())?;
+    let calls = steps
+        .iter()
+        .map(|step| step.call())
+        .collect::<Vec<_>>(heap)?;
     let table = table_for::<T>(heap, &policy, size)?;
     run_list(out, heap, policy, scale, table, calls.as_slice())
 }
@@ -97,13 +85,13 @@ fn run_book<W: Write + Drop, K: Scale + Copy, T: Table + Drop>(
 pub(crate) fn run<W: Write + Drop>(
     out: &mut BufWriter<W>,
     heap: Global,
+    mut words: Words<'_>,
     line: &str,
 ) -> anyhow::Result<()> {
-    let mut words = line.split(';').next().unwrap_or("").split(' ').skip(1);
-    let scale = words.next().unwrap_or("");
-    let kind = words.next().unwrap_or("");
-    let size = words.next().unwrap_or("").parse::<usize>()?;
-    let text = decode(heap, words.next().unwrap_or(""))?;
+    let scale = words.next();
+    let kind = words.next();
+    let size = words.number()?;
+    let text = words.bytes(heap)?;
     let policy = policy_of(text.as_slice())?;
     match (scale, kind) {
         ("plain", "row") => run_book::<W, Plain, RowTable>(out, heap, policy, Plain, size, line),

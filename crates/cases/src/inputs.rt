@@ -1,5 +1,5 @@
 //! Cases of the program: an input, and the answers to it.
-use crate::hex::decode;
+use crate::words::Words;
 use console::{Room, respond};
 use std::alloc::Global;
 use std::io::{BufWriter, Write};
@@ -8,9 +8,9 @@ use std::io::{BufWriter, Write};
 pub(crate) fn run<W: Write + Drop>(
     out: &mut BufWriter<W>,
     heap: Global,
-    hex: &str,
+    mut words: Words<'_>,
 ) -> anyhow::Result<()> {
-    let input = decode(heap, hex)?;
+    let input = words.bytes(heap)?;
     let room = Room::new(heap)?;
     for answer in respond(room, input.as_slice()) {
         writeln!(out, "{answer}")?;

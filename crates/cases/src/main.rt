@@ -14,13 +14,14 @@
 use anyhow::anyhow;
 use std::alloc::Global;
 use std::io::{BufRead, BufReader, BufWriter, Read, Write};
+use words::Words;
 
 mod books;
-mod hex;
 mod inputs;
 mod steps;
 mod tables;
 mod texts;
+mod words;
 
 /// The most bytes of standard input that are read.
 const READ: u64 = 16_777_216;
@@ -31,13 +32,12 @@ fn run_case<W: Write + Drop>(
     heap: Global,
     line: &str,
 ) -> anyhow::Result<()> {
-    let head = line.split(';').next().unwrap_or("");
-    let mut words = head.split(' ');
-    match words.next().unwrap_or("") {
-        "text" => texts::run(out, heap, words.next().unwrap_or("")),
-        "table" => tables::run(out, heap, line),
-        "book" => books::run(out, heap, line),
-        "input" => inputs::run(out, heap, words.next().unwrap_or("")),
+    let mut words = Words::new(line.split(';').next().unwrap_or(""));
+    match words.next() {
+        "text" => texts::run(out, heap, words),
+        "table" => tables::run(out, heap, words, line),
+        "book" => books::run(out, heap, words, line),
+        "input" => inputs::run(out, heap, words),
         _ => Err(anyhow!("no case")),
     }
 }

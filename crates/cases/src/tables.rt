@@ -1,34 +1,24 @@
 //! Cases of row stores.
-use crate::hex::{decode, print_hex};
+use crate::words::Words;
 use anyhow::anyhow;
+use refusals::Refusal;
 use row_table::RowTable;
 use std::alloc::Global;
-use std::io;
+use std::fmt;
 use std::io::{BufWriter, Write};
 use stores::{Store, StoreFault};
 use stretch_store::StretchTable;
 
 /// A store that is made in memory handed over, and whose memory can be looked at.
-pub trait Table: Store {
+pub trait InMemory: Store {
     fn make(memory: Vec<u8>, width: usize) -> Result<Self, StoreFault>;
 
     fn bytes(&self) -> &[u8];
 }
 
-/// What making has given, without the memory of a table that was not made.
-fn made<T: Drop>(r: Result<T, (StoreFault, Vec<u8>)>) -> Result<T, StoreFault> {
-    match r {
-        Ok(table) => Ok(table),
-        Err(back) => {
-            let (fault, _memory) = back;
-            Err(fault)
-        }
-    }
-}
-
-impl Table for RowTable {
+impl InMemory for RowTable {
     fn make(memory: Vec<u8>, width: usize) -> Result<RowTable, StoreFault> {
-        made(RowTable::new(memory, width))
+        RowTable::new(memory, width).map_err(|(fault, _memory)| fault)
     }
 
     fn bytes(&self) -> &[u8] {
@@ -36,9 +26,9 @@ impl Table for RowTable {
     }
 }
 
-impl Table for StretchTable {
+impl InMemory for StretchTable {
     fn make(memory: Vec<u8>, width: usize) -> Result<StretchTable, StoreFault> {
-        made(StretchTable::new(memory, width))
+        StretchTable::new(memory, width).map_err(|(fault, _memory)| fault)
     }
 
     fn bytes(&self) -> &[u8] {
@@ -47,30 +37,33 @@ impl Table for StretchTable {
 }
 
 /// Prints low, high and every byte of the memory.
-pub(crate) fn print_table<W: Write + Drop, T: Table>(
+pub(crate) fn print_table<W: Write + Drop, T: InMemory>(
     out: &mut BufWriter<W>,
+    heap: Global,
     table: &T,
-) -> io::Result<()> {
+) -> anyhow::Result<()> {
     let low = table.low();
     let high = table.high();
-    write!(out, " low {low} high {high} memory ")?;
-    print_hex(out, table.bytes())?;
-    writeln!(out, "")
+    let memory = hex::encode(heap, table.bytes())?;
+    writeln!(out, " low {low} high {high} memory {memory}")?;
+    Ok(())
 }
 
-/// What a call answers that gives nothing back.
-fn print_done<W: Write + Drop>(
-    out: &mut BufWriter<W>,
-    r: Result<(), StoreFault>,
-) -> io::Result<()> {
-    match r {
-        Ok(()) => write!(out, "done"),
-        Err(fault) => write!(out, "{}", fault.refusal()),
+/// What a call answers that gives nothing back, as it is printed.
+#[derive(Clone, Copy)]
+struct Done(Result<(), StoreFault>);
+
+impl fmt::Display for Done {
+    fn fmt<W: fmt::Write>(&self, f: &mut fmt::Formatter<W>) -> fmt::Result {
+        match self.0 {
+            Ok(()) => write!(f, "done"),
+            Err(fault) => write!(f, "{}", Refusal::from(fault)),
+        }
     }
 }
 
 /// Reads a run into a room of `len` bytes, and prints the record.
-fn print_read<W: Write + Drop, T: Table>(
+fn print_read<W: Write + Drop, T: InMemory>(
     out: &mut BufWriter<W>,
     heap: Global,
     table: &T,
@@ -79,46 +72,37 @@ fn print_read<W: Write + Drop, T: Table>(
 ) -> anyhow::Result<()> {
     let mut room = vec![in heap; 170; len]?;
     match table.read(run, &mut room) {
-        Ok(()) => print_hex(out, room.as_slice())?,
-        Err(fault) => write!(out, "{}", fault.refusal())?,
+        Ok(()) => write!(out, "{}", hex::encode(heap, room.as_slice())?)?,
+        Err(fault) => write!(out, "{}", Refusal::from(fault))?,
     }
     Ok(())
 }
 
 /// Performs one call, and prints its answer.
-fn run_call<W: Write + Drop, T: Table>(
+fn run_call<W: Write + Drop, T: InMemory>(
     out: &mut BufWriter<W>,
     heap: Global,
     table: &mut T,
     call: &str,
 ) -> anyhow::Result<()> {
-    let mut words = call.split(' ');
-    match words.next().unwrap_or("") {
+    let mut words = Words::new(call);
+    let done = match words.next() {
         "read" => {
-            let run = words.next().unwrap_or("").parse::<u32>()?;
-            let len = words.next().unwrap_or("").parse::<usize>()?;
-            print_read(out, heap, table, run, len)?;
+            let run = words.number()?;
+            let len = words.number()?;
+            return print_read(out, heap, table, run, len);
         }
-        "write" => {
-            let run = words.next().unwrap_or("").parse::<u32>()?;
-            let rec = decode(heap, words.next().unwrap_or(""))?;
-            print_done(out, table.write(run, rec.as_slice()))?;
-        }
-        "append" => {
-            let rec = decode(heap, words.next().unwrap_or(""))?;
-            print_done(out, table.append(rec.as_slice()))?;
-        }
-        "forget" => {
-            let run = words.next().unwrap_or("").parse::<u32>()?;
-            print_done(out, table.forget(run))?;
-        }
+        "write" => table.write(words.number()?, words.bytes(heap)?.as_slice()),
+        "append" => table.append(words.bytes(heap)?.as_slice()),
+        "forget" => table.forget(words.number()?),
         _ => return Err(anyhow!("no call")),
-    }
+    };
+    write!(out, "{}", Done(done))?;
     Ok(())
 }
 
 /// Makes a table in memory that is not zero, performs the calls, and prints the memory after each.
-fn run_calls<W: Write + Drop, T: Table + Drop>(
+fn run_calls<W: Write + Drop, T: InMemory + Drop>(
     out: &mut BufWriter<W>,
     heap: Global,
     width: usize,
@@ -128,16 +112,16 @@ fn run_calls<W: Write + Drop, T: Table + Drop>(
     let mut table = match T::make(vec![in heap; 255; size]?, width) {
         Ok(table) => table,
         Err(fault) => {
-            writeln!(out, "{}", fault.refusal())?;
+            writeln!(out, "{}", Refusal::from(fault))?;
             return Ok(());
         }
     };
     let limit = table.limit();
     write!(out, "limit {limit}")?;
-    print_table(out, &table)?;
+    print_table(out, heap, &table)?;
     for call in line.split(';').skip(1) {
         run_call(out, heap, &mut table, call)?;
-        print_table(out, &table)?;
+        print_table(out, heap, &table)?;
     }
     Ok(())
 }
@@ -146,12 +130,12 @@ fn run_calls<W: Write + Drop, T: Table + Drop>(
 pub(crate) fn run<W: Write + Drop>(
     out: &mut BufWriter<W>,
     heap: Global,
+    mut words: Words<'_>,
     line: &str,
 ) -> anyhow::Result<()> {
-    let mut words = line.split(';').next().unwrap_or("").split(' ').skip(1);
-    let kind = words.next().unwrap_or("");
-    let width = words.next().unwrap_or("").parse::<usize>()?;
-    let size = words.next().unwrap_or("").parse::<usize>()?;
+    let kind = words.next();
+    let width = words.number()?;
+    let size = words.number()?;
     match kind {
         "row" => run_calls::<W, RowTable>(out, heap, width, size, line),
         "stretch" => run_calls::<W, StretchTable>(out, heap, width, size, line),

@@ -27,10 +27,8 @@ fn read_policy(input: &[u8]) -> Result<(Policy, &[u8]), Refusal>
     ensures { MatchResult result (λ p. PolicyRead input.now p.0 p.1.now) (λ r. Printed input.now (refused r ∷ [])) }
 {
     let (text, rest) = cut_input(input)?;
-    match text::read(text) {
-        Ok(reading) => Ok((reading.policy, rest)),
-        Err(fault) => Err(fault.refusal()),
-    }
+    let reading = text::read(text)?;
+    Ok((reading.policy, rest))
 }
 
 /// A refusal as the only answer.

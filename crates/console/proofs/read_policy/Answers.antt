@@ -9,8 +9,10 @@ returns-in_err-text c =
     let p = err_from_is_err_and c.from_residual.result c.from_residual.ensures.1 in
     rw (p.1) (without_text c.args.input.now _ c.in_err-text.field-0.0 c.in_err-text.ensures p.2)
 
-pub returns-in-Err : goal.returns-in-Err
-returns-in-Err c = without_policy c.args.input.now c.in_ok-text.text.now c.in_ok-text.rest.now c.refusal.result c.in-Err.fault c.in_ok-text.ensures c.in-Err.ensures.right c.refusal.ensures
+pub returns-in_err-reading : goal.returns-in_err-reading
+returns-in_err-reading c =
+    let p = err_from_is_err_and c.from_residual-in_err-reading.result c.from_residual-in_err-reading.ensures.1 in
+    rw (p.1) (without_policy c.args.input.now c.in_ok-text.text.now c.in_ok-text.rest.now _ c.in_err-reading.field-0.0 c.in_ok-text.ensures c.in_err-reading.ensures.right p.2)
 
-pub returns-in-Ok : goal.returns-in-Ok
-returns-in-Ok c = (c.in_ok-text.text.now, c.in-Ok.reading, c.in_ok-text.ensures, c.in-Ok.ensures.right, refl)
+pub returns : goal.returns
+returns c = (c.in_ok-text.text.now, c.in_ok-reading.reading, c.in_ok-text.ensures, c.in_ok-reading.ensures.right, refl)
