@@ -1,9 +1,9 @@
 -- What making, write, append and forget make of a stretch table's entries. Assumes nothing.
-use Rattle.std.proofs.Common.{◌≡◌, ℕ, zero, suc, ◌+◌, ◌-◌, ◌*◌, ◌<◌, ◌≤◌, true, false, ◌&&◌, ltb, List, [], ◌∷◌, ◌++◌, length, drop, replicate, set, Ok, vec_items, sym, refl, ap, ◌∙◌, subst, ⊎_elim, append_assoc, append-nil, mul-le-mul_right, arith, length-drop}
+use Rattle.std.proofs.Common.{◌≡◌, ℕ, zero, suc, ◌+◌, ◌-◌, ◌*◌, ◌<◌, ◌≤◌, Bool, true, false, ◌&&◌, ltb, List, [], ◌∷◌, ◌++◌, length, drop, replicate, set, Ok, vec_items, sym, refl, ap, ◌∙◌, subst, ⊎_elim, append_assoc, append-nil, mul-le-mul_right, arith, length-drop}
 use lib.ListN.{length-replicate}
 use Rattle.std.specs.Str.{bytes_eq}
 use Rattle.std.proofs.lemmas.List.{length_push, length-set, drop-drop, drop_at, drop-append-le, drop-replicate, replicate_more, nil_from_length}
-use Rattle.std.proofs.lemmas.Bool.{and_cases, ltb-false}
+use Rattle.std.proofs.lemmas.Bool.{and_cases, and_parts, ltb-false, ltb-true}
 use Rattle.stores.specs.Bounds.{Sizes, Window, raised, from_run}
 use Rattle.stores.specs.Making.{making}
 use Rattle.stores.specs.declared.bounds.Bounds.{Bounds}
@@ -110,12 +110,12 @@ module _ (es : Entries) (k : Kept es.bounds es.used (vec_items es.bytes)) where
     reads_last : entry_at es (es.used - 1) ≡ last.last
     reads_last = entry_is es (es.used - 1) last.front [] last.last last.is place
 
-    pub count_small : (entry_at es (es.used - 1)).count ≤ 1000000
+    count_small : (entry_at es (es.used - 1)).count ≤ 1000000
     count_small =
         subst (λ (s : Stretch). s.count ≤ 1000000) (sym reads_last)
         (omega (arith, all_runs, ap runs last.is, runs_append last.front (last.last ∷ []), runs_more last.last [], k.window))
 
-    pub adds_same : (rec : List ℕ) (new : Entries) (first count : ℕ) → new.bounds ≡ raised b → bytes_eq (entry_at es (es.used - 1)).kept rec ≡ true
+    adds_same : (rec : List ℕ) (new : Entries) (first count : ℕ) → new.bounds ≡ raised b → bytes_eq (entry_at es (es.used - 1)).kept rec ≡ true
         → first ≡ (entry_at es (es.used - 1)).first → count ≡ (entry_at es (es.used - 1)).count
         → ((A B : List Stretch) (e : Stretch) → held es ≡ A ++ (e ∷ B) → length A ≡ es.used - 1 → held new ≡ A ++ (stretch first (count + 1) e.kept ∷ B))
         → Grouped (raised b) (rs ++ (rec ∷ [])) new.used (vec_items new.bytes)
@@ -162,7 +162,7 @@ module _ (es : Entries) (k : Kept es.bounds es.used (vec_items es.bytes)) where
       (subst Differ (sym (append_assoc e.front (e.last ∷ []) (new ∷ [])))
       (differ_append e.front (new ∷ []) e.last (subst Differ e.is differ) (ne, (tt, tt))))
 
-  pub adds_new : (rec : List ℕ) (new : Entries) → new.bounds ≡ raised b → (ltb 0 es.used && bytes_eq (entry_at es (es.used - 1)).kept rec) ≡ false
+  adds_new : (rec : List ℕ) (new : Entries) → new.bounds ≡ raised b → (ltb 0 es.used && bytes_eq (entry_at es (es.used - 1)).kept rec) ≡ false
       → held new ≡ held es ++ (stretch (b.high + 1) 1 rec ∷ []) → Grouped (raised b) (rs ++ (rec ∷ [])) new.used (vec_items new.bytes)
   adds_new rec new bounds other is =
       let s = stretch (b.high + 1) 1 rec in
@@ -178,10 +178,26 @@ module _ (es : Entries) (k : Kept es.bounds es.used (vec_items es.bytes)) where
   raised_window : b.high < 999999 → b.high + 1 < b.low + b.limit → Window (raised b)
   raised_window last room = (k.window.0, omega (arith, k.window), omega arith, omega arith, λ e. absurd (omega (arith, k.window)))
 
-  pub added : (rec : List ℕ) (new : Entries) → b.high < 999999 → b.high + 1 < b.low + b.limit → new.bounds ≡ raised b → length (vec_items new.bytes) ≡ length (vec_items es.bytes)
-      → Grouped (raised b) (rs ++ (rec ∷ [])) new.used (vec_items new.bytes) → IsTable (raised b) (rs ++ (rec ∷ [])) new
-  added rec new last room bounds size g =
-      is_table (raised b) (rs ++ (rec ∷ [])) new bounds (raised_window last room) (omega (arith, k.inside, size)) (length_push rs rec ∙ omega (arith, all_runs, k.window)) g
+  -- by what `ends_with` answers
+  module _ (rec : List ℕ) (r : Bool) (value : r ≡ (ltb 0 es.used && bytes_eq (entry_at es (es.used - 1)).kept rec)) where
+    ends : r ≡ true → (0 < es.used) × (bytes_eq (entry_at es (es.used - 1)).kept rec ≡ true)
+    ends yes' = let both = and_parts (ltb 0 es.used) (bytes_eq (entry_at es (es.used - 1)).kept rec) (sym value ∙ yes') in (ltb-true 0 es.used both.0, both.1)
+
+    pub last_small : r ≡ true → (entry_at es (es.used - 1)).count ≤ 1000000
+    last_small yes' = count_small (ends yes').0
+
+    module _ (last : b.high < 999999) (room : b.high + 1 < b.low + b.limit) (new : Entries) (same : (new.bounds ≡ raised b) × (length (vec_items new.bytes) ≡ length (vec_items es.bytes))) where
+      added : Grouped (raised b) (rs ++ (rec ∷ [])) new.used (vec_items new.bytes) → IsTable (raised b) (rs ++ (rec ∷ [])) new
+      added g =
+          is_table (raised b) (rs ++ (rec ∷ [])) new same.0 (raised_window last room) (omega (arith, k.inside, same.1)) (length_push rs rec ∙ omega (arith, all_runs, k.window)) g
+
+      pub added_same : r ≡ true → (first count : ℕ) → first ≡ (entry_at es (es.used - 1)).first → count ≡ (entry_at es (es.used - 1)).count
+          → ((A B : List Stretch) (e : Stretch) → held es ≡ A ++ (e ∷ B) → length A ≡ es.used - 1 → held new ≡ A ++ (stretch first (count + 1) e.kept ∷ B))
+          → IsTable (raised b) (rs ++ (rec ∷ [])) new
+      added_same yes' first count first_is count_is sets = added (adds_same (ends yes').0 rec new first count same.0 (ends yes').1 first_is count_is sets)
+
+      pub added_new : r ≡ false → held new ≡ held es ++ (stretch (b.high + 1) 1 rec ∷ []) → IsTable (raised b) (rs ++ (rec ∷ [])) new
+      added_new no' is = added (adds_new rec new same.0 (sym value ∙ no') is)
 
   module _ (run : ℕ) (from : b.low ≤ run) (to : run ≤ b.high) where
     lowered_window : Window (from_run b run)

@@ -112,6 +112,20 @@ written w used m ss bytes h all =
       held = read;
     }
 
+-- memory in which others stand for the stretch at place i, as f makes them of it
+pub record Turned (es : Entries) (used : ℕ) (m : List ℕ) (i : ℕ) (f : Stretch → List Stretch) : Type 0 where
+  pub values : are_bytes m ≡ true
+  pub fits : used * (es.bounds.width + 8) ≤ length m
+  pub rest : m ≡ filled (stretches_in es.bounds.width used m) (length m)
+  pub turns : (A B : List Stretch) (e : Stretch) → held es ≡ A ++ (e ∷ B) → length A ≡ i → stretches_in es.bounds.width used m ≡ A ++ (f e ++ B)
+
+pub turned : (es : Entries) (used : ℕ) (m : List ℕ) (i : ℕ) (f : Stretch → List Stretch) → i < es.used
+    → ((A B : List Stretch) (e : Stretch) → held es ≡ A ++ (e ∷ B) → length A ≡ i → Written es.bounds.width used m (A ++ (f e ++ B))) → Turned es used m i f
+turned es used m i f lt each =
+    let a = around es i lt in
+    let k = each a.front a.back (entry_at es i) a.is a.place in
+    record { values = k.values; fits = k.fits; rest = k.rest; turns = λ A B e is place. (each A B e is place).held }
+
 -- entries whose numbers and size have stayed hold stretches as those before would
 pub holds_as : (old new : Entries) (ss : List Stretch) → SameRoom old new → held new ≡ ss → Holds old.bounds.width ss (vec_items new.bytes)
 holds_as old new ss same is = subst (λ (b : Bounds). Holds b.width ss (vec_items new.bytes)) same.0 (lists_as new ss is)

@@ -14,6 +14,7 @@ use Rattle.stretch_table.specs.Entries.{stretch_at, stretches_in, Sized, Holds, 
 use Rattle.stretch_table.proofs.Edits.{reads_all}
 use Rattle.stretch_table.proofs.Grouping.{entries_few, ends}
 use Rattle.stretch_table.proofs.Held.{all_counting}
+use Rattle.stretch_table.proofs.Holding.{all_right}
 use Rattle.stretch_table.proofs.Places.{within}
 use Rattle.stretch_table.proofs.Stretches.{stand, alone}
 
@@ -32,10 +33,6 @@ module _ {X : Type 0} (P : X → Type 0) where
   replicate_all zero x ys some h = absurd (omega arith)
   replicate_all (suc n) x ys some h = h.0
 
-  rest_all : (n : ℕ) (x : X) (ys : List X) → AllByRecursion P (replicate n x ++ ys) → AllByRecursion P ys
-  rest_all zero x ys h = h
-  rest_all (suc n) x ys h = rest_all n x ys h.1
-
 -- what holds of the record of each stretch, and of each record
 all_records : (P : List ℕ → Type 0) (ss : List Stretch) → AllByRecursion (λ s. P s.kept) ss → AllByRecursion P (records_of ss)
 all_records P [] h = tt
@@ -43,7 +40,7 @@ all_records P (s ∷ ss) h = All-append P (replicate s.count s.kept) (records_of
 
 all_kept : (P : List ℕ → Type 0) (n : ℕ) (ss : List Stretch) → Follow n ss → AllByRecursion P (records_of ss) → AllByRecursion (λ s. P s.kept) ss
 all_kept P n [] f h = tt
-all_kept P n (s ∷ ss) f h = (replicate_all P s.count s.kept (records_of ss) f.1 h, all_kept P (n + s.count) ss f.2 (rest_all P s.count s.kept (records_of ss) h))
+all_kept P n (s ∷ ss) f h = (replicate_all P s.count s.kept (records_of ss) f.1 h, all_kept P (n + s.count) ss f.2 (all_right P (replicate s.count s.kept) (records_of ss) h))
 
 -- memory that holds stretches, and the records that they stand for
 pub record Lies (b : Bounds) (ss : List Stretch) (rs : List (List ℕ)) (m : List ℕ) : Type 0 where

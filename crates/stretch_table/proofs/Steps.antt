@@ -1,23 +1,21 @@
 -- What each write to entries leaves them. Assumes nothing.
-use Rattle.std.proofs.Common.{◌≡◌, ℕ, ◌+◌, ◌-◌, ◌*◌, ◌^◌, ◌<◌, ◌≤◌, List, [], ◌∷◌, ◌++◌, length, take, drop, replicate, vec_items, Vec, sym, ap, ◌∙◌, subst, add-mul, arith, length-append}
+use Rattle.std.proofs.Common.{◌≡◌, ℕ, ◌+◌, ◌-◌, ◌*◌, ◌^◌, ◌<◌, ◌≤◌, true, List, [], ◌∷◌, ◌++◌, length, take, drop, replicate, vec_items, sym, ap, ◌∙◌, subst, add-mul, arith, length-append}
 use lib.Seq.{paste}
 use Rattle.std.specs.Vec.{with_items}
 use Rattle.std.specs.List.{between}
 use Rattle.std.proofs.ByRecursion.{All-append}
 use Rattle.std.proofs.lemmas.List.{with_items_is, length_push, length-take-le}
 use Rattle.std.proofs.lemmas.List.Edits.{split_between, length-between}
+use Rattle.stores.specs.Bytes.{are_bytes}
 use Rattle.stores.proofs.Bytes.{Bytes, bytes_from, bytes_part, bytes_paste, bytes_zeros}
 use Rattle.stretch_table.specs.Stretches.{Stretch, stretch}
-use Rattle.stretch_table.specs.Image.{four}
+use Rattle.stretch_table.specs.Image.{four, filled}
+use Rattle.stretch_table.specs.Entries.{stretches_in}
 use Rattle.stretch_table.specs.Held.{held, HasRoom}
 use Rattle.stretch_table.specs.declared.entries.Entries.{Entries}
 use Rattle.stretch_table.proofs.Edits.{sets_numbers, sets_record, doubles, removes, grows}
-use Rattle.stretch_table.proofs.Held.{many, lists, lists_as, Written, written}
+use Rattle.stretch_table.proofs.Held.{many, lists, lists_as, Written, written, Turned, turned}
 use Rattle.stretch_table.proofs.Pastes.{paste_take}
-
--- what is made of a Vec's items through a slice of them
-pub through : {Z : Type 0} (v : Vec ℕ Z) (d ws : List ℕ) (f : List ℕ → List ℕ) → d ≡ vec_items v → ws ≡ f d → length ws ≡ length (vec_items v) → vec_items (with_items v ws) ≡ f (vec_items v)
-through v d ws f of is long = with_items_is v ws (long ∙ sym v.ok.0) ∙ is ∙ ap f of
 
 number_bytes : (n : ℕ) (bs : List ℕ) → Bytes bs → Bytes (four n ++ bs)
 number_bytes n bs h = (omega arith, (omega arith, (omega arith, (omega arith, h))))
@@ -43,7 +41,7 @@ module _ (es : Entries) (n : List ℕ) where
     at : place_of i ≡ place_of (length A)
     at = ap place_of (sym place)
 
-    pub runs_set : (p : ℕ) → p ≡ place_of i → (first count : ℕ) → first < 2 ^ 32 → count < 2 ^ 32 → n ≡ paste m p (four first ++ four count) 8
+    runs_set : (p : ℕ) → p ≡ place_of i → (first count : ℕ) → first < 2 ^ 32 → count < 2 ^ 32 → n ≡ paste m p (four first ++ four count) 8
         → Written w es.used n (A ++ (stretch first count e.kept ∷ B))
     runs_set p there first count small few put =
         let s = stretch first count e.kept in
@@ -51,14 +49,14 @@ module _ (es : Entries) (n : List ℕ) where
         (sets_numbers A B e (lists_as es (A ++ (e ∷ B)) is) p (there ∙ at) first count n small few put)
         (one A B e s is)
 
-    pub record_set : (p : ℕ) → p ≡ place_of i → (rec : List ℕ) → Bytes rec → length rec ≡ w → n ≡ paste m (p + 8) rec (length rec) → Written w es.used n (A ++ (stretch e.first e.count rec ∷ B))
+    record_set : (p : ℕ) → p ≡ place_of i → (rec : List ℕ) → Bytes rec → length rec ≡ w → n ≡ paste m (p + 8) rec (length rec) → Written w es.used n (A ++ (stretch e.first e.count rec ∷ B))
     record_set p there rec bytes long put =
         let s = stretch e.first e.count rec in
         written w es.used n (A ++ (s ∷ B)) (pasted (p + 8) (length rec) rec bytes put)
         (sets_record A B e (lists_as es (A ++ (e ∷ B)) is) p (there ∙ at) rec n long (put ∙ ap (paste m (p + 8) rec) long))
         (one A B e s is)
 
-    pub doubled : HasRoom es → n ≡ paste m (place_of (i + 1)) (drop (place_of i) m) (place_of es.used - place_of i) → Written w (es.used + 1) n (A ++ (e ∷ e ∷ B))
+    doubled : HasRoom es → n ≡ paste m (place_of (i + 1)) (drop (place_of i) m) (place_of es.used - place_of i) → Written w (es.used + 1) n (A ++ (e ∷ e ∷ B))
     doubled room put =
         let k = place_of es.used - place_of i in
         let all : length (A ++ (e ∷ B)) ≡ es.used = ap length (sym is) ∙ many es in
@@ -72,7 +70,7 @@ module _ (es : Entries) (n : List ℕ) where
     abbrev part : List ℕ
     part = take (place_of es.used - place_of to) (drop (place_of to) m) ++ replicate (place_of to - place_of from) 0
 
-    pub removed : (A O B : List Stretch) → held es ≡ A ++ (O ++ B) → length A ≡ from → length A + length O ≡ to
+    removed : (A O B : List Stretch) → held es ≡ A ++ (O ++ B) → length A ≡ from → length A + length O ≡ to
         → n ≡ paste m (place_of from) part (place_of es.used - place_of from) → Written w (es.used - (to - from)) n (A ++ B)
     removed A O B is place end put =
         let all : length (A ++ (O ++ B)) ≡ es.used = ap length (sym is) ∙ many es in
@@ -81,7 +79,7 @@ module _ (es : Entries) (n : List ℕ) where
         (removes A O B (lists_as es (A ++ (O ++ B)) is) (place_of from) (place_of to) (place_of es.used) n (ap place_of (sym place)) (ap place_of (sym end)) (ap place_of (sym all)) put)
         (length-append A B ∙ omega (arith, all, length-append A (O ++ B), length-append O B))
 
-    pub removed_there : from ≤ to → to ≤ es.used → n ≡ paste m (place_of from) part (place_of es.used - place_of from)
+    removed_there : from ≤ to → to ≤ es.used → n ≡ paste m (place_of from) part (place_of es.used - place_of from)
         → Written w (es.used - (to - from)) n (take from (held es) ++ drop to (held es))
     removed_there le fits put =
         let all = many es in
@@ -96,3 +94,43 @@ grown es room =
     written es.bounds.width (es.used + 1) (vec_items es.bytes) _ (bytes_from (vec_items es.bytes) es.values)
     (grows (held es) (lists es) (omega arith))
     (length_push (held es) (stretch 0 0 (replicate es.bounds.width 0)) ∙ omega arith)
+
+pub double_turns : (es : Entries) (n : List ℕ) (i : ℕ) → i < es.used → HasRoom es
+    → n ≡ paste (vec_items es.bytes) ((i + 1) * (es.bounds.width + 8)) (drop (i * (es.bounds.width + 8)) (vec_items es.bytes)) (es.used * (es.bounds.width + 8) - i * (es.bounds.width + 8))
+    → Turned es (es.used + 1) n i (λ e. e ∷ e ∷ [])
+double_turns es n i lt room put = turned es (es.used + 1) n i (λ e. e ∷ e ∷ []) lt (λ A B e is place. doubled es n i A B e is place room put)
+
+-- memory without the stretches from place `from` to `to`
+pub record Removed (es : Entries) (from to : ℕ) (n : List ℕ) : Type 0 where
+  pub values : are_bytes n ≡ true
+  pub fits : (es.used - (to - from)) * (es.bounds.width + 8) ≤ length n
+  pub rest : n ≡ filled (stretches_in es.bounds.width (es.used - (to - from)) n) (length n)
+  pub left : (A O B : List Stretch) → held es ≡ A ++ (O ++ B) → length A ≡ from → length A + length O ≡ to → stretches_in es.bounds.width (es.used - (to - from)) n ≡ A ++ B
+
+-- the writes through a slice d of the bytes, which leaves ws there
+module _ (es : Entries) (d ws : List ℕ) (of : d ≡ vec_items es.bytes) (long : length ws ≡ length (vec_items es.bytes)) where
+  abbrev n : List ℕ
+  n = vec_items (with_items es.bytes ws)
+
+  through : (f : List ℕ → List ℕ) → ws ≡ f d → n ≡ f (vec_items es.bytes)
+  through f is = with_items_is es.bytes ws (long ∙ sym es.bytes.ok.0) ∙ is ∙ ap f of
+
+  pub remove_leaves : (from to : ℕ) → from ≤ to → to ≤ es.used
+      → ws ≡ paste d (place_of es n from) (take (place_of es n es.used - place_of es n to) (drop (place_of es n to) d) ++ replicate (place_of es n to - place_of es n from) 0) (place_of es n es.used - place_of es n from)
+      → Removed es from to n
+  remove_leaves from to le fits put =
+      let at = place_of es n in
+      let there = through (λ l. paste l (at from) (take (at es.used - at to) (drop (at to) l) ++ replicate (at to - at from) 0) (at es.used - at from)) put in
+      let k = removed_there es n from to le fits there in
+      record { values = k.values; fits = k.fits; rest = k.rest; left = λ A O B is place end. (removed es n from to A O B is place end there).held }
+
+  module _ (i p : ℕ) (lt : i < es.used) (at : p ≡ i * (es.bounds.width + 8)) where
+    pub runs_turn : (first count : ℕ) → first < 2 ^ 32 → count < 2 ^ 32 → ws ≡ paste d p (four first ++ four count) 8 → Turned es es.used n i (λ e. stretch first count e.kept ∷ [])
+    runs_turn first count small few put =
+        let there = through (λ l. paste l p (four first ++ four count) 8) put in
+        turned es es.used n i (λ e. stretch first count e.kept ∷ []) lt (λ A B e is place. runs_set es n i A B e is place p at first count small few there)
+
+    pub record_turns : (rec : List ℕ) → Bytes rec → length rec ≡ es.bounds.width → ws ≡ paste d (p + 8) rec (length rec) → Turned es es.used n i (λ e. stretch e.first e.count rec ∷ [])
+    record_turns rec bytes wide put =
+        let there = through (λ l. paste l (p + 8) rec (length rec)) put in
+        turned es es.used n i (λ e. stretch e.first e.count rec ∷ []) lt (λ A B e is place. record_set es n i A B e is place p at rec bytes wide there)
