@@ -15,9 +15,9 @@
 //!
 //! The first entry begins at low, each next one behind the last run of the one before, and neighbours have different
 //! records. So every byte is fixed by what the table means (Image.antt in the specs of `stretch_table`), at its making and
-//! after every call: that is part of its type.
+//! after every call: that is part of the type of its records.
 //!
-//! Rests on `stores`, whose interface it meets, and on `stretch_table`, whose steps it takes.
+//! Rests on `stores`, whose interface it meets, and on `stretch_table`, whose records it keeps.
 #![tactic(auto)]
 
 mod making;

@@ -3,11 +3,11 @@ ghost use Rattle.std.specs.Prelude.{◌≡◌, length, replicate, Ok, Err, vec_l
 ghost use Rattle.stores.specs.Meaning.{empty};
 ghost use Rattle.stores.specs.Making.{making};
 ghost use Rattle.stretch_table.specs.Image.{image};
-ghost use Rattle.stretch_store.specs.Table.{means};
+ghost use Rattle.stretch_store.specs.Table.{means, bytes_of};
 
 use crate::table::StretchTable;
-use stores::{Bounds, StoreFault, limit_for};
-use stretch_table::clear;
+use stores::{StoreFault, limit_for};
+use stretch_table::StretchRecords;
 
 impl StretchTable {
     /// The limit that a table for records of `width` bytes has in `size` bytes of memory; an entry has 8 bytes more.
@@ -22,42 +22,30 @@ impl StretchTable {
     /// An empty table in all of the memory, which is set to zero.
     ///
     /// Refuses where `limit_in` does, and hands the memory back as it was.
-    pub fn new(mut memory: Vec<u8>, width: usize) -> Result<StretchTable, (StoreFault, Vec<u8>)>
+    pub fn new(memory: Vec<u8>, width: usize) -> Result<StretchTable, (StoreFault, Vec<u8>)>
         ensures value { MatchResult result
-            (λ t. (making width 8 (vec_len memory) ≡ Ok t.bounds.limit) × (means t ≡ empty width t.bounds.limit) × (t.memory.items ≡ replicate (vec_len memory) 0))
+            (λ t. (making width 8 (vec_len memory) ≡ Ok (means t).limit) × (means t ≡ empty width (means t).limit) × (bytes_of t ≡ replicate (vec_len memory) 0))
             (λ e. (making width 8 (vec_len memory) ≡ Err e.0) × (e.1 ≡ memory)) }
     {
         match StretchTable::limit_in(width, memory.len()) {
             Err(fault) => Err((fault, memory)),
-            Ok(limit) => {
-                let bounds = Bounds {
-                    width,
-                    limit,
-                    low: 1,
-                    high: 0,
-                };
-                clear(&mut memory, bounds);
-                Ok(StretchTable {
-                    memory,
-                    bounds,
-                    used: 0,
-                })
-            }
+            Ok(limit) => Ok(StretchTable {
+                records: StretchRecords::new(memory, width, limit),
+            }),
         }
     }
 
     /// Every byte of the memory.
     pub fn memory(&self) -> &[u8]
-        ensures value { result.now ≡ image (means self.now) (length self.now.memory.items) }
+        ensures value { result.now ≡ image (means self.now) (length (bytes_of self.now)) }
     {
-        self.memory.as_slice()
+        self.records.memory()
     }
 
     /// The memory, handed back as it stands.
     pub fn into_memory(self) -> Vec<u8>
-        ensures value { result.items ≡ image (means self) (length self.memory.items) }
+        ensures value { result.items ≡ image (means self) (length (bytes_of self)) }
     {
-        let StretchTable { memory, .. } = self;
-        memory
+        self.records.into_memory()
     }
 }

@@ -3,11 +3,12 @@ use Rattle.std.proofs.Common.{◌≡◌, ℕ, ◌+◌, ◌-◌, ◌*◌, ◌^◌
 use lib.ListN.{length-replicate}
 use lib.Seq.{paste}
 use Rattle.std.specs.List.{range_with_len, flat_map}
+use Rattle.std.proofs.lemmas.Grind.{flat_map-append}
 use Rattle.std.proofs.lemmas.List.{get_or-append-add, replicate-append-replicate, length_push}
 use Rattle.stretch_table.specs.Stretches.{Stretch, stretch}
 use Rattle.stretch_table.specs.Image.{four, entry}
-use Rattle.stretch_table.specs.Entries.{stretch_at, stretches_in, Sized, Holds}
-use Rattle.stretch_table.proofs.Holding.{word, joined_append, length_entry, length_entries, Parts, parts, holds_parts}
+use Rattle.stretch_table.specs.Entries.{stretch_at, stretches_in, Holds}
+use Rattle.stretch_table.proofs.Holding.{word, length_entry, length_entries, Parts, parts, holds_parts}
 use Rattle.stretch_table.proofs.Pastes.{paste_part, part_of, zeros}
 
 abbrev numbers : ℕ → ℕ → List ℕ
@@ -47,22 +48,6 @@ module _ {w : ℕ} (A B : List Stretch) (e : Stretch) {m : List ℕ} (h : Holds 
           is = is ∙ ap (λ l. paste l p (numbers first count) 8) P.is ∙ paste_part front (numbers e.first e.count) ((e.kept ++ back) ++ rest) (numbers first count) p 8 (length_front ∙ sym place) refl refl;
         }
 
-    pub sets_count : (count : ℕ) (n : List ℕ) → count < 2 ^ 32 → n ≡ paste m (p + 4) (four count) 4 → Holds w (A ++ (stretch e.first count e.kept ∷ B)) n
-    sets_count count n few is =
-        let head = four e.first in
-        let tail = (e.kept ++ back) ++ rest in
-        let split : m ≡ (front ++ head) ++ (four e.count ++ tail) = P.is ∙ sym (append_assoc front head (four e.count ++ tail)) in
-        holds_parts A [] (stretch e.first count e.kept ∷ B) record {
-          sized_front = P.sized_front;
-          sized_mid = tt;
-          sized_back = (record { first = P.sized_back.0.first; count = few; wide = P.sized_back.0.wide }, P.sized_back.1);
-          left = P.left;
-          is =
-              is ∙ ap (λ l. paste l (p + 4) (four count) 4) split
-              ∙ paste_part (front ++ head) (four e.count) tail (four count) (p + 4) 4 (length-append front head ∙ ap (λ k. k + 4) (length_front ∙ sym place)) refl refl
-              ∙ append_assoc front head (four count ++ tail);
-        }
-
     pub sets_record : (rec n : List ℕ) → length rec ≡ w → n ≡ paste m (p + 8) rec w → Holds w (A ++ (stretch e.first e.count rec ∷ B)) n
     sets_record rec n long is =
         let head = numbers e.first e.count in
@@ -89,7 +74,7 @@ module _ {w : ℕ} (A B : List Stretch) (e : Stretch) {m : List ℕ} (h : Holds 
         let lx : length x ≡ s = length_entry w e P.sized_back.0 in
         let la : length front ≡ p = length_front ∙ sym place in
         let all : length (flat_map entry (A ++ (e ∷ B))) ≡ length front + (length x + length back) =
-        ap length (joined_append A (e ∷ B)) ∙ length-append front (x ++ back) ∙ ap (λ k. length front + k) (length-append x back)
+        ap length (flat_map-append entry A (e ∷ B)) ∙ length-append front (x ++ back) ∙ ap (λ k. length front + k) (length-append x back)
         in
         let q-is : q ≡ length front + (length x + length back) = end ∙ sym (length_entries w (A ++ (e ∷ B)) h.sized) ∙ all in
         let long : length m ≡ length front + ((length x + length back) + P.left) =
@@ -154,7 +139,7 @@ module _ {w : ℕ} (A O B : List Stretch) {m : List ℕ} (h : Holds w (A ++ (O +
       in
       let lq : length a + (length o + length b) ≡ q =
       sym (end ∙ sym (length_entries w (A ++ (O ++ B)) h.sized)
-      ∙ ap length (joined_append A (O ++ B) ∙ ap (λ l. a ++ l) (joined_append O B)) ∙ length-append a (o ++ b) ∙ ap (λ k. length a + k) (length-append o b))
+      ∙ ap length (flat_map-append entry A (O ++ B) ∙ ap (λ l. a ++ l) (flat_map-append entry O B)) ∙ length-append a (o ++ b) ∙ ap (λ k. length a + k) (length-append o b))
       in
       let moved : take (q - r) (drop r m) ≡ b =
       ap (λ l. take (q - r) (drop r l)) (P.is ∙ sym (append_assoc a o (b ++ z))) ∙ part_of (a ++ o) b z r (q - r) (length-append a o ∙ lo) (omega arith)
@@ -172,23 +157,19 @@ module _ {w : ℕ} (A O B : List Stretch) {m : List ℕ} (h : Holds w (A ++ (O +
             ∙ ap (λ l. a ++ l) (append_assoc b (replicate (r - p) 0) z ∙ ap (λ l. b ++ l) (replicate-append-replicate (r - p) P.left 0));
       }
 
-module _ {w : ℕ} (A : List Stretch) (e : Stretch) {m : List ℕ} (h : Holds w A m) (sized : Sized w e) where
-  pub pushes : (p : ℕ) (n : List ℕ) → p ≡ length A * (w + 8) → p + (w + 8) ≤ length m → n ≡ paste m p (entry e) (w + 8) → Holds w (A ++ (e ∷ [])) n
-  pushes p n place room is =
+module _ {w : ℕ} (A : List Stretch) {m : List ℕ} (h : Holds w A m) where
+  -- behind the entries lie zeros, which are an entry too
+  pub grows : length A * (w + 8) + (w + 8) ≤ length m → Holds w (A ++ (stretch 0 0 (replicate w 0) ∷ [])) m
+  grows room =
       let a = flat_map entry A in
-      let z = length m - length a in
-      let la : length a ≡ p = length_entries w A h.sized ∙ sym place in
-      let gap = zeros z (w + 8) (omega arith) in
-      let split : m ≡ a ++ (replicate (w + 8) 0 ++ replicate gap.0 0) = h.is ∙ ap (λ l. a ++ l) gap.1 in
-      holds_parts A [] (e ∷ []) record {
+      let gap = zeros (length m - length a) (w + 8) (omega (arith, length_entries w A h.sized)) in
+      let blank : replicate (w + 8) 0 ≡ replicate 8 0 ++ replicate {A = ℕ} w 0 = ap (λ n. replicate n 0) (omega arith) ∙ sym (replicate-append-replicate 8 w 0) in
+      holds_parts A [] (stretch 0 0 (replicate w 0) ∷ []) record {
         sized_front = h.sized;
         sized_mid = tt;
-        sized_back = (sized, tt);
+        sized_back = (record { first = omega arith; count = omega arith; wide = length-replicate w 0 }, tt);
         left = gap.0;
-        is =
-            is ∙ ap (λ l. paste l p (entry e) (w + 8)) split
-            ∙ paste_part a (replicate (w + 8) 0) (replicate gap.0 0) (entry e) p (w + 8) la (length-replicate {A = ℕ} (w + 8) 0) (length_entry w e sized)
-            ∙ ap (λ l. a ++ (l ++ replicate gap.0 0)) (sym (append-nil (entry e)));
+        is = h.is ∙ ap (λ l. a ++ l) (gap.1 ∙ ap (λ l. l ++ replicate gap.0 0) (blank ∙ sym (append-nil _)));
       }
 
 -- all entries are read as they were written
@@ -201,13 +182,3 @@ reads_from w A (e ∷ B) m h =
 
 pub reads_all : (w : ℕ) (ss : List Stretch) (m : List ℕ) → Holds w ss m → stretches_in w (length ss) m ≡ ss
 reads_all w ss m h = reads_from w [] ss m h
-
-pub reads_at : (w i : ℕ) (m : List ℕ) (A B : List Stretch) (e : Stretch) → Holds w (A ++ (e ∷ B)) m → length A ≡ i → stretch_at w m i ≡ e
-reads_at w i m A B e h place = ap (stretch_at w m) (sym place) ∙ reads A B e h
-
--- the same entries, with one of those behind counted to those in front
-pub step_over : {w : ℕ} {m : List ℕ} (A B : List Stretch) (e : Stretch) → Holds w (A ++ (e ∷ B)) m → Holds w ((A ++ (e ∷ [])) ++ B) m
-step_over {w} {m} A B e h = subst (λ l. Holds w l m) (sym (append_assoc A (e ∷ []) B)) h
-
-pub step_back : {w : ℕ} {m : List ℕ} (A B : List Stretch) (e : Stretch) → Holds w ((A ++ (e ∷ [])) ++ B) m → Holds w (A ++ (e ∷ B)) m
-step_back {w} {m} A B e h = subst (λ l. Holds w l m) (append_assoc A (e ∷ []) B) h

@@ -1,24 +1,20 @@
 -- Entries in memory: how they are read, and what a write to one, a shift and a new one make of them. Assumes nothing.
-use Rattle.std.proofs.Common.{◌≡◌, ℕ, ◌+◌, ◌-◌, ◌*◌, ◌/◌, ◌%◌, ◌^◌, ◌<◌, List, [], ◌∷◌, ◌++◌, length, replicate, sym, refl, ap, ◌∙◌, append_assoc, mod-eq_of_lt, suc-mul, arith, length-append}
+use Rattle.std.proofs.Common.{◌≡◌, ℕ, ◌+◌, ◌-◌, ◌*◌, ◌/◌, ◌%◌, ◌^◌, ◌<◌, List, [], ◌∷◌, ◌++◌, length, replicate, sym, ap, ◌∙◌, subst, refl, append_assoc, mod-eq_of_lt, suc-mul, arith, length-append}
 use native.Mathlib.Nat.{div-div-eq-div-mul, div-add-mod}
 use lib.ListN.{length-replicate}
 use Rattle.std.specs.List.{flat_map, AllByRecursion}
-use Rattle.std.proofs.ByRecursion.{All-append}
+use Rattle.std.proofs.ByRecursion.{All-append, All-take, All-drop}
+use Rattle.std.proofs.lemmas.List.{take_at, drop_at}
+use Rattle.std.proofs.lemmas.Grind.{flat_map-append}
 use Rattle.stretch_table.specs.Stretches.{Stretch}
 use Rattle.stretch_table.specs.Image.{entry}
 use Rattle.stretch_table.specs.Entries.{Sized, Holds}
 
-pub joined_append : (A B : List Stretch) → flat_map entry (A ++ B) ≡ flat_map entry A ++ flat_map entry B
-joined_append [] B = refl
-joined_append (s ∷ A) B = ap (λ l. entry s ++ l) (joined_append A B) ∙ sym (append_assoc (entry s) (flat_map entry A) (flat_map entry B))
+pub all_left : {X : Type 0} (P : X → Type 0) (xs ys : List X) → AllByRecursion P (xs ++ ys) → AllByRecursion P xs
+all_left P xs ys h = subst (AllByRecursion P) (take_at xs ys (length xs) refl) (All-take P (length xs) (xs ++ ys) h)
 
-all_left : {X : Type 0} (P : X → Type 0) (xs ys : List X) → AllByRecursion P (xs ++ ys) → AllByRecursion P xs
-all_left P [] ys h = tt
-all_left P (x ∷ xs) ys h = (h.0, all_left P xs ys h.1)
-
-all_right : {X : Type 0} (P : X → Type 0) (xs ys : List X) → AllByRecursion P (xs ++ ys) → AllByRecursion P ys
-all_right P [] ys h = h
-all_right P (x ∷ xs) ys h = all_right P xs ys h.1
+pub all_right : {X : Type 0} (P : X → Type 0) (xs ys : List X) → AllByRecursion P (xs ++ ys) → AllByRecursion P ys
+all_right P xs ys h = subst (AllByRecursion P) (drop_at xs ys (length xs) refl) (All-drop P (length xs) (xs ++ ys) h)
 
 -- a number is read as it was written
 pub word : (n : ℕ) → n < 2 ^ 32 → n / 16777216 % 256 * 16777216 + n / 65536 % 256 * 65536 + n / 256 % 256 * 256 + n % 256 ≡ n
@@ -71,7 +67,7 @@ module _ {w : ℕ} (A O B : List Stretch) {m : List ℕ} where
         left = z;
         is =
             h.is
-            ∙ ap (λ l. l ++ replicate z 0) (joined_append A (O ++ B) ∙ ap (λ l. flat_map entry A ++ l) (joined_append O B))
+            ∙ ap (λ l. l ++ replicate z 0) (flat_map-append entry A (O ++ B) ∙ ap (λ l. flat_map entry A ++ l) (flat_map-append entry O B))
             ∙ append_assoc (flat_map entry A) (flat_map entry O ++ flat_map entry B) (replicate z 0)
             ∙ ap (λ l. flat_map entry A ++ l) (append_assoc (flat_map entry O) (flat_map entry B) (replicate z 0));
       }
@@ -82,6 +78,6 @@ module _ {w : ℕ} (A O B : List Stretch) {m : List ℕ} where
       holds_from w (A ++ (O ++ B)) m p.left
       (All-append (Sized w) A (O ++ B) p.sized_front (All-append (Sized w) O B p.sized_mid p.sized_back))
       (p.is
-      ∙ sym (ap (λ l. l ++ z) (joined_append A (O ++ B) ∙ ap (λ l. flat_map entry A ++ l) (joined_append O B))
+      ∙ sym (ap (λ l. l ++ z) (flat_map-append entry A (O ++ B) ∙ ap (λ l. flat_map entry A ++ l) (flat_map-append entry O B))
       ∙ append_assoc (flat_map entry A) (flat_map entry O ++ flat_map entry B) z
       ∙ ap (λ l. flat_map entry A ++ l) (append_assoc (flat_map entry O) (flat_map entry B) z)))

@@ -13,6 +13,8 @@ use Rattle.stretch_table.specs.Image.{filled}
 use Rattle.stretch_table.specs.Entries.{stretch_at, stretches_in, Sized, Holds, meaning_of, Kept}
 use Rattle.stretch_table.proofs.Edits.{reads_all}
 use Rattle.stretch_table.proofs.Grouping.{entries_few, ends}
+use Rattle.stretch_table.proofs.Held.{all_counting}
+use Rattle.stretch_table.proofs.Holding.{all_right}
 use Rattle.stretch_table.proofs.Places.{within}
 use Rattle.stretch_table.proofs.Stretches.{stand, alone}
 
@@ -31,14 +33,6 @@ module _ {X : Type 0} (P : X → Type 0) where
   replicate_all zero x ys some h = absurd (omega arith)
   replicate_all (suc n) x ys some h = h.0
 
-  rest_all : (n : ℕ) (x : X) (ys : List X) → AllByRecursion P (replicate n x ++ ys) → AllByRecursion P ys
-  rest_all zero x ys h = h
-  rest_all (suc n) x ys h = rest_all n x ys h.1
-
-all_counting : (P : ℕ → Type 0) (a n : ℕ) → ((i : ℕ) → i < a + n → P i) → AllByRecursion P (range_with_len a n)
-all_counting P a zero h = tt
-all_counting P a (suc n) h = (h a (omega arith), all_counting P (a + 1) n (λ i lt. h i (omega arith)))
-
 -- what holds of the record of each stretch, and of each record
 all_records : (P : List ℕ → Type 0) (ss : List Stretch) → AllByRecursion (λ s. P s.kept) ss → AllByRecursion P (records_of ss)
 all_records P [] h = tt
@@ -46,7 +40,7 @@ all_records P (s ∷ ss) h = All-append P (replicate s.count s.kept) (records_of
 
 all_kept : (P : List ℕ → Type 0) (n : ℕ) (ss : List Stretch) → Follow n ss → AllByRecursion P (records_of ss) → AllByRecursion (λ s. P s.kept) ss
 all_kept P n [] f h = tt
-all_kept P n (s ∷ ss) f h = (replicate_all P s.count s.kept (records_of ss) f.1 h, all_kept P (n + s.count) ss f.2 (rest_all P s.count s.kept (records_of ss) h))
+all_kept P n (s ∷ ss) f h = (replicate_all P s.count s.kept (records_of ss) f.1 h, all_kept P (n + s.count) ss f.2 (all_right P (replicate s.count s.kept) (records_of ss) h))
 
 -- memory that holds stretches, and the records that they stand for
 pub record Lies (b : Bounds) (ss : List Stretch) (rs : List (List ℕ)) (m : List ℕ) : Type 0 where
@@ -134,6 +128,16 @@ module _ (b : Bounds) (used : ℕ) (m : List ℕ) (k : Kept b used m) where
         differ = grouped.1;
         records = grouped.2;
       }
+
+  -- the entries are those stretches
+  same : stretches_in b.width used m ≡ held
+  same = ap (λ n. stretches_in b.width n m) k.used_is ∙ reads_all b.width held m lies.holds
+
+  pub follow_in : Follow b.low (stretches_in b.width used m)
+  follow_in = subst (Follow b.low) (sym same) grouped.0
+
+  pub differ_in : Differ (stretches_in b.width used m)
+  differ_in = subst Differ (sym same) grouped.1
 
   pub bounds_are : bounds_of (meaning_of b used m) ≡ b
   bounds_are = ap (with_high b) (omega (arith, k.count, k.window))

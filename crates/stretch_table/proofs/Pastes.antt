@@ -1,8 +1,8 @@
 -- A part of a list overwritten, where the list is known by its parts. Assumes nothing.
 use Rattle.std.proofs.Common.{◌≡◌, ℕ, ◌+◌, ◌-◌, ◌≤◌, List, ◌++◌, length, take, drop, replicate, sym, ap, ◌∙◌, append_assoc, arith, length-append}
 use lib.Seq.{paste}
-use Rattle.std.proofs.lemmas.List.Edits.{paste_all, paste-paste}
-use Rattle.std.proofs.lemmas.List.{take_at, drop_at, take-take, length-take-le, replicate-append-replicate}
+use Rattle.std.proofs.lemmas.List.Edits.{paste_all}
+use Rattle.std.proofs.lemmas.List.{take_at, drop_at, take-take, replicate-append-replicate}
 
 -- x, behind a, is overwritten by y
 pub paste_part : (a x r y : List ℕ) (p n : ℕ) → length a ≡ p → length x ≡ n → length y ≡ n → paste (a ++ (x ++ r)) p y n ≡ a ++ (y ++ r)
@@ -20,7 +20,3 @@ zeros n k le = (n - k, ap (λ i. replicate i 0) (omega arith) ∙ sym (replicate
 -- only so much of what is laid over counts
 pub paste_take : (d s : List ℕ) (at n : ℕ) → paste d at s n ≡ paste d at (take n s) n
 paste_take d s at n = ap (λ l. take at d ++ l ++ drop (at + n) d) (sym (take-take n n s (omega arith)))
-
-pub paste_then : (d s t : List ℕ) (at n k : ℕ) → n ≤ length s → at ≤ length d → length t ≡ k → paste (paste d at s n) (at + n) t k ≡ paste d at (take n s ++ t) (n + k)
-paste_then d s t at n k le fits lt =
-    ap (λ l. paste l (at + n) t k) (paste_take d s at n) ∙ paste-paste d at (take n s) t n k (sym (length-take-le n s le)) (sym lt) fits

@@ -3,6 +3,3 @@ use Rattle.std.proofs.Common.{ℕ, suc, ◌+◌, ◌*◌, ◌<◌, ◌≤◌, mu
 
 pub within : (i used size n : ℕ) → i < used → used * size ≤ n → i * size + size ≤ n
 within i used size n lt room = let end : suc i * size ≤ used * size = mul-le-mul_right size lt in omega arith
-
-pub within_more : (i used size n : ℕ) → i ≤ used → used * size + size ≤ n → i * size + size ≤ n
-within_more i used size n le room = let end : i * size ≤ used * size = mul-le-mul_right size le in omega arith

@@ -1,3 +1,5 @@
 pub mod Stretches
 pub mod Image
 pub mod Entries
+pub mod Held
+pub mod Means

@@ -21,7 +21,7 @@ pub(crate) fn put(m: &mut [u8], at: usize, part: &[u8])
 }
 
 /// Writes a number in four bytes, the highest first.
-pub(crate) fn put_number(m: &mut [u8], at: usize, n: u32)
+fn put_number(m: &mut [u8], at: usize, n: u32)
     requires { at + 4 ≤ length m.old }
     ensures after { m.new ≡ paste m.old at (four n) 4 }
 {
@@ -35,15 +35,6 @@ pub(crate) fn put_numbers(m: &mut [u8], at: usize, first: u32, second: u32)
 {
     put_number(m, at, first);
     put_number(m, at + 4, second);
-}
-
-/// Moves what lies from `from` to `end` up by `by` bytes.
-pub(crate) fn shift_up(m: &mut [u8], from: usize, end: usize, by: usize)
-    requires order { from ≤ end }
-    requires room { end + by ≤ length m.old }
-    ensures after { m.new ≡ paste m.old (from + by) (take (end - from) (drop from m.old)) (end - from) }
-{
-    m.copy_within(from..end, from + by);
 }
 
 /// Moves what lies from `from` to `end` down to `to`, and zeroes what it leaves behind.

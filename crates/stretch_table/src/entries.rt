@@ -1,99 +1,126 @@
 //! Entries in memory: from the front, without gaps, each a first run, a number of runs and their record.
-//!
-//! What a write promises, it promises of every list of stretches that the memory holds (`Holds`).
-ghost use Rattle.std.specs.Prelude.{◌≡◌, ℕ, ◌+◌, ◌*◌, ◌<◌, ◌≤◌, List, [], ◌∷◌, ◌++◌, length};
-ghost use Rattle.std.specs.Str.{bytes_eq};
+ghost use Rattle.std.specs.Prelude.{◌≡◌, ℕ, ◌+◌, ◌*◌, ◌<◌, ◌≤◌, true, List, [], ◌∷◌, ◌++◌, length};
+ghost use Rattle.stores.specs.Bounds.{Sizes};
+ghost use Rattle.stores.specs.Bytes.{are_bytes};
+ghost use Rattle.stretch_table.specs.Image.{filled};
 ghost use Rattle.stretch_table.specs.Stretches.{Stretch, stretch};
-ghost use Rattle.stretch_table.specs.Entries.{stretch_at, Holds};
+ghost use Rattle.stretch_table.specs.Entries.{stretches_in};
 
-use crate::bytes::{number_at, put, put_number, put_numbers, shift_down, shift_up};
+use crate::bytes::{number_at, put, put_numbers, shift_down};
+use stores::Bounds;
 
-/// The first run of the entry at place i.
-pub(crate) fn first_at(m: &[u8], width: usize, i: usize) -> u32
-    requires { i * (width + 8) + (width + 8) ≤ length m.now }
-    ensures value { result ≡ (stretch_at width m.now i).first }
-{
-    number_at(m, i * (width + 8))
+/// Stretches in memory that is handed over, and the numbers of the table that they are of.
+///
+/// Invariant: `used` entries lie in the memory, and what lies behind them is zero.
+#[derive(Drop)]
+pub(crate) struct Entries {
+    pub(crate) bytes: Vec<u8>,
+    pub(crate) bounds: Bounds,
+    pub(crate) used: usize,
+    ghost sizes: { Sizes bounds },
+    ghost values: { are_bytes bytes.items ≡ true },
+    ghost fits: { used * (bounds.width + 8) ≤ length bytes.items },
+    ghost rest: { bytes.items ≡ filled (stretches_in bounds.width used bytes.items) (length bytes.items) },
 }
 
-/// How many runs the entry at place i has.
-pub(crate) fn count_at(m: &[u8], width: usize, i: usize) -> u32
-    requires { i * (width + 8) + (width + 8) ≤ length m.now }
-    ensures value { result ≡ (stretch_at width m.now i).count }
-{
-    number_at(m, i * (width + 8) + 4)
-}
+impl Entries {
+    ghost use Rattle.stretch_table.specs.Held.{held, entry_at, HasRoom, SameRoom, Turns};
 
-/// The record of the entry at place i.
-pub(crate) fn record_at(m: &[u8], width: usize, i: usize) -> &[u8]
-    requires { i * (width + 8) + (width + 8) ≤ length m.now }
-    ensures value { result.now ≡ (stretch_at width m.now i).kept }
-    ensures len { length result.now ≡ width }
-{
-    let at = i * (width + 8) + 8;
-    &m[at..at + width]
-}
+    /// Where the entry at place i begins.
+    fn start(&self, i: usize) -> usize
+        requires { i < self.now.used }
+        ensures value { result ≡ i * (self.now.bounds.width + 8) }
+        ensures room { result + (self.now.bounds.width + 8) ≤ length self.now.bytes.items }
+    {
+        i * (self.bounds.width + 8)
+    }
 
-/// Whether two records are the same.
-pub(crate) fn same(a: &[u8], b: &[u8]) -> bool
-    ensures value { result ≡ bytes_eq a.now b.now }
-{
-    a == b
-}
+    /// The first run of the entry at place i.
+    pub(crate) fn first(&self, i: usize) -> u32
+        requires { i < self.now.used }
+        ensures value { result ≡ (entry_at self.now i).first }
+    {
+        number_at(&self.bytes, self.start(i))
+    }
 
-/// Gives the entry at place i other runs.
-pub(crate) fn set_runs(m: &mut [u8], width: usize, i: usize, first: u32, count: u32)
-    requires { i * (width + 8) + (width + 8) ≤ length m.old }
-    ensures after { (A B : List Stretch) (e : Stretch) → Holds width (A ++ (e ∷ B)) m.old → length A ≡ i → Holds width (A ++ (stretch first count e.kept ∷ B)) m.new }
-{
-    put_numbers(m, i * (width + 8), first, count);
-}
+    /// How many runs the entry at place i has.
+    pub(crate) fn count(&self, i: usize) -> u32
+        requires { i < self.now.used }
+        ensures value { result ≡ (entry_at self.now i).count }
+    {
+        number_at(&self.bytes, self.start(i) + 4)
+    }
 
-/// Gives the entry at place i another number of runs.
-pub(crate) fn set_count(m: &mut [u8], width: usize, i: usize, count: u32)
-    requires { i * (width + 8) + (width + 8) ≤ length m.old }
-    ensures after { (A B : List Stretch) (e : Stretch) → Holds width (A ++ (e ∷ B)) m.old → length A ≡ i → Holds width (A ++ (stretch e.first count e.kept ∷ B)) m.new }
-{
-    put_number(m, i * (width + 8) + 4, count);
-}
+    /// The record of the entry at place i.
+    pub(crate) fn record(&self, i: usize) -> &[u8]
+        requires { i < self.now.used }
+        ensures value { result.now ≡ (entry_at self.now i).kept }
+        ensures len { length result.now ≡ self.now.bounds.width }
+    {
+        let at = self.start(i) + 8;
+        &self.bytes[at..at + self.bounds.width]
+    }
 
-/// Gives the entry at place i another record.
-pub(crate) fn set_record(m: &mut [u8], width: usize, i: usize, rec: &[u8])
-    requires room { i * (width + 8) + (width + 8) ≤ length m.old }
-    requires long { length rec.now ≡ width }
-    ensures after { (A B : List Stretch) (e : Stretch) → Holds width (A ++ (e ∷ B)) m.old → length A ≡ i → Holds width (A ++ (stretch e.first e.count rec.now ∷ B)) m.new }
-{
-    put(m, i * (width + 8) + 8, rec);
-}
+    /// Gives the entry at place i other runs.
+    pub(crate) fn set_runs(&mut self, i: usize, first: u32, count: u32)
+        requires { i < self.old.used }
+        ensures after { Turns self.old self.new i (λ e. stretch first count e.kept ∷ []) }
+        ensures used { self.new.used ≡ self.old.used }
+        ensures same { SameRoom self.old self.new }
+    {
+        let at = self.start(i);
+        put_numbers(&mut self.bytes, at, first, count);
+    }
 
-/// Moves the entries from place i on, of `used` in all, one place up, and leaves the one at place i there too.
-pub(crate) fn double(m: &mut [u8], width: usize, used: usize, i: usize)
-    requires within { i < used }
-    requires room { used * (width + 8) + (width + 8) ≤ length m.old }
-    ensures after { (A B : List Stretch) (e : Stretch) → Holds width (A ++ (e ∷ B)) m.old → length A ≡ i → length (A ++ (e ∷ B)) ≡ used → Holds width (A ++ (e ∷ e ∷ B)) m.new }
-{
-    let size = width + 8;
-    shift_up(m, i * size, used * size, size);
-}
+    /// Gives the entry at place i another record.
+    pub(crate) fn set_record(&mut self, i: usize, rec: &[u8])
+        requires within { i < self.old.used }
+        requires long { length rec.now ≡ self.old.bounds.width }
+        ensures after { Turns self.old self.new i (λ e. stretch e.first e.count rec.now ∷ []) }
+        ensures used { self.new.used ≡ self.old.used }
+        ensures same { SameRoom self.old self.new }
+    {
+        let at = self.start(i) + 8;
+        put(&mut self.bytes, at, rec);
+    }
 
-/// Drops the entries from place `from` to `to`, of `used` in all, and moves those behind them down.
-pub(crate) fn remove(m: &mut [u8], width: usize, used: usize, from: usize, to: usize)
-    requires wide { width ≤ 289 }
-    requires within { (from ≤ to) × (to ≤ used) }
-    requires room { used * (width + 8) ≤ length m.old }
-    ensures after { (A O B : List Stretch) → Holds width (A ++ (O ++ B)) m.old → length A ≡ from → length A + length O ≡ to → length (A ++ (O ++ B)) ≡ used → Holds width (A ++ B) m.new }
-{
-    let size = width + 8;
-    shift_down(m, from * size, to * size, used * size);
-}
+    /// Puts the entry at place i there a second time, with those behind it one place up.
+    pub(crate) fn double(&mut self, i: usize)
+        requires within { i < self.old.used }
+        requires room { HasRoom self.old }
+        ensures after { Turns self.old self.new i (λ e. e ∷ e ∷ []) }
+        ensures used { self.new.used ≡ self.old.used + 1 }
+        ensures same { SameRoom self.old self.new }
+    {
+        let size = self.bounds.width + 8;
+        self.bytes
+            .copy_within(i * size..self.used * size, (i + 1) * size);
+        self.used += 1;
+    }
 
-/// Adds an entry for one run behind the `used` that there are.
-pub(crate) fn push(m: &mut [u8], width: usize, used: usize, run: u32, rec: &[u8])
-    requires room { used * (width + 8) + (width + 8) ≤ length m.old }
-    requires long { length rec.now ≡ width }
-    ensures after { (A : List Stretch) → Holds width A m.old → length A ≡ used → Holds width (A ++ (stretch run 1 rec.now ∷ [])) m.new }
-{
-    let at = used * (width + 8);
-    put_numbers(m, at, run, 1);
-    put(m, at + 8, rec);
+    /// Drops the entries from place `from` to `to`, and moves those behind them down.
+    pub(crate) fn remove(&mut self, from: usize, to: usize)
+        requires within { (from ≤ to) × (to ≤ self.old.used) }
+        ensures after { (A O B : List Stretch) → held self.old ≡ A ++ (O ++ B) → length A ≡ from → length A + length O ≡ to → held self.new ≡ A ++ B }
+        ensures used { self.new.used + to ≡ self.old.used + from }
+        ensures same { SameRoom self.old self.new }
+    {
+        let size = self.bounds.width + 8;
+        shift_down(&mut self.bytes, from * size, to * size, self.used * size);
+        self.used -= to - from;
+    }
+
+    /// Adds an entry for one run behind those that there are.
+    pub(crate) fn push(&mut self, run: u32, rec: &[u8])
+        requires room { HasRoom self.old }
+        requires long { length rec.now ≡ self.old.bounds.width }
+        ensures after { held self.new ≡ held self.old ++ (stretch run 1 rec.now ∷ []) }
+        ensures used { self.new.used ≡ self.old.used + 1 }
+        ensures same { SameRoom self.old self.new }
+    {
+        let i = self.used;
+        self.used += 1;
+        self.set_runs(i, run, 1);
+        self.set_record(i, rec);
+    }
 }

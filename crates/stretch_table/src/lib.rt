@@ -1,9 +1,15 @@
-//! Stretches of runs that have the same record (run-length coding), as entries in memory that is lent.
+//! Stretches of runs that have the same record (run-length coding), as entries in memory that is handed over.
+//!
+//! ```text
+//! memory: the entries in the order of their runs, W + 8 bytes each, then zeros
+//! +---------+---------+-- .. --+------------+-------+
+//! | entry 0 | entry 1 |        | last entry | zeros |
+//! +---------+---------+-- .. --+------------+-------+
+//! ```
 //!
 //! Promises that the stretches of a list of records are the one way to group them, and of each step that a stretch table
-//! takes (clear, copy out, replace, add, drop) every byte that it leaves: the image of the records as they should be then
-//! (specs/Image.antt, specs/Entries.antt). A step asks that its memory is kept so; the type of a stretch table says
-//! that it always is. Rests on `refusals` and `stores`.
+//! takes (make, copy out, replace, add, drop) the records that it then means. Every byte of the memory is the image of
+//! those, which is part of the type (specs/Image.antt, specs/Entries.antt). Rests on `refusals` and `stores`.
 #![tactic(auto)]
 
 ghost use Rattle.std.specs.Prelude.{◌≡◌};
@@ -11,11 +17,13 @@ ghost use Rattle.stretch_table.specs.Stretches.{Stand, Alone};
 
 mod bytes;
 mod entries;
+mod making;
 mod runs;
 mod search;
 mod splits;
+mod table;
 
-pub use runs::{add, clear, copy_out, drop_below, replace};
+pub use table::StretchRecords;
 
 /// That the stretches of a list of records are the one way to group them.
 pub fn stretches_stand()

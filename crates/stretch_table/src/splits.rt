@@ -1,9 +1,8 @@
 //! Entries that are cut and joined.
-ghost use Rattle.std.specs.Prelude.{◌≡◌, ℕ, ◌+◌, ◌-◌, ◌*◌, ◌<◌, ◌≤◌, true, ◌&&◌, List, ◌∷◌, ◌++◌, length, if◌then◌else◌, nat_lt};
+ghost use Rattle.std.specs.Prelude.{◌≡◌, ◌+◌, ◌-◌, ◌<◌, ◌≤◌, true, ◌&&◌, List, ◌∷◌, ◌++◌, length, if◌then◌else◌, nat_lt};
 ghost use Rattle.stretch_table.specs.Stretches.{Stretch, inside, pieces, fused, Few};
-ghost use Rattle.stretch_table.specs.Entries.{stretch_at, Holds};
 
-use crate::entries::{count_at, double, first_at, record_at, remove, same, set_runs};
+use crate::entries::Entries;
 
 /// Whether a stretch begins below a run and ends at it or above.
 fn is_inside(first: u32, count: u32, run: u32) -> bool
@@ -13,42 +12,44 @@ fn is_inside(first: u32, count: u32, run: u32) -> bool
     first < run && run - first < count
 }
 
-/// Cuts the entry at place i, of `used` in all, before `run` if that is inside. How many entries there are then.
-pub(crate) fn cut(m: &mut [u8], width: usize, used: usize, i: usize, run: u32) -> usize
-    requires within { i < used }
-    requires room { used * (width + 8) ≤ length m.old }
-    requires more { inside (stretch_at width m.old i) run ≡ true → used * (width + 8) + (width + 8) ≤ length m.old }
-    ensures value { result ≡ (if inside (stretch_at width m.old i) run then used + 1 else used) }
-    ensures after { (A B : List Stretch) (e : Stretch) → Holds width (A ++ (e ∷ B)) m.old → length A ≡ i → length (A ++ (e ∷ B)) ≡ used → Holds width (A ++ (pieces e run ++ B)) m.new }
-{
-    let first = first_at(m, width, i);
-    let count = count_at(m, width, i);
-    if !is_inside(first, count, run) {
-        return used;
-    }
-    double(m, width, used, i);
-    set_runs(m, width, i, first, run - first);
-    set_runs(m, width, i + 1, run, count - (run - first));
-    used + 1
-}
+impl Entries {
+    ghost use Rattle.stretch_table.specs.Held.{held, entry_at, HasRoom, SameRoom, Turns};
 
-/// Joins the entry at place i, of `used` in all, with the next if they have the same record. How many entries there are then.
-pub(crate) fn join(m: &mut [u8], width: usize, used: usize, i: usize) -> usize
-    requires wide { width ≤ 289 }
-    requires within { i < used }
-    requires room { used * (width + 8) ≤ length m.old }
-    ensures bound { (result ≤ used) × (used ≤ result + 1) }
-    ensures after { (A B : List Stretch) (e : Stretch) → Holds width (A ++ (e ∷ B)) m.old → length A ≡ i → length (A ++ (e ∷ B)) ≡ used → Few e B → Holds width (A ++ fused e B) m.new × (length (A ++ fused e B) ≡ result) }
-{
-    if i + 1 == used {
-        return used;
+    /// Cuts the entry at place i before `run` if that is inside. The place behind the cut, or i where there is none.
+    pub(crate) fn cut(&mut self, i: usize, run: u32) -> usize
+        requires within { i < self.old.used }
+        requires more { inside (entry_at self.old i) run ≡ true → HasRoom self.old }
+        ensures value { result ≡ (if inside (entry_at self.old i) run then i + 1 else i) }
+        ensures after { Turns self.old self.new i (λ e. pieces e run) }
+        ensures same { SameRoom self.old self.new }
+    {
+        let first = self.first(i);
+        let count = self.count(i);
+        if !is_inside(first, count, run) {
+            return i;
+        }
+        self.double(i);
+        self.set_runs(i, first, run - first);
+        self.set_runs(i + 1, run, count - (run - first));
+        i + 1
     }
-    if !same(record_at(m, width, i), record_at(m, width, i + 1)) {
-        return used;
+
+    /// Joins the entry at place i with the next if they have the same record.
+    pub(crate) fn join(&mut self, i: usize)
+        requires { i < self.old.used }
+        ensures after { (A B : List Stretch) (e : Stretch) → held self.old ≡ A ++ (e ∷ B) → length A ≡ i → Few e B → held self.new ≡ A ++ fused e B }
+        ensures bound { self.old.used ≤ self.new.used + 1 }
+        ensures same { SameRoom self.old self.new }
+    {
+        if i + 1 == self.used {
+            return;
+        }
+        if self.record(i) != self.record(i + 1) {
+            return;
+        }
+        let first = self.first(i);
+        let count = self.count(i).saturating_add(self.count(i + 1));
+        self.set_runs(i, first, count);
+        self.remove(i + 1, i + 2);
     }
-    let first = first_at(m, width, i);
-    let count = count_at(m, width, i).saturating_add(count_at(m, width, i + 1));
-    set_runs(m, width, i, first, count);
-    remove(m, width, used, i + 1, i + 2);
-    used - 1
 }

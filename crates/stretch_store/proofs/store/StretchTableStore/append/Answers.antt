@@ -1,33 +1,8 @@
-use Rattle.std.proofs.Common.{◌≡◌, length, vec_items, sym, refl, ◌∙◌, arith}
 use Rattle.std.proofs.lemmas.Result.{err_from_is_err_and}
-use Rattle.stores.specs.Bounds.{raised}
-use Rattle.stores.specs.Meaning.{appended}
 use Rattle.stretch_store.specs.Table.{means}
-use Rattle.stretch_store.specs.Tables.{kept_after, means_after, length_after}
 use Rattle.stretch_store.proofs.store.StretchTableStore.append.Goals as goal
 
-pub returns-in_err-check_append : goal.returns-in_err-check_append
-returns-in_err-check_append c =
+pub returns-in_err-check_append-clause-value : goal.returns-in_err-check_append-clause-value
+returns-in_err-check_append-clause-value c =
     let p = err_from_is_err_and c.from_residual.result c.from_residual.ensures.1 in
-    rw (p.1, p.2) record { value = c.in_err-check_append.ensures.value (means c.args.self.now) c.bounds-b.ensures.means c.bounds-b.ensures.first; after = refl; same = refl }
-
-pub invariant_of-self : goal.invariant_of-self
-invariant_of-self c =
-    let t = c.args.self.now in
-    let ws = c.add-self.new.m in
-    let long : length ws ≡ length (vec_items t.memory) = omega arith in
-    let k = kept_after t ws long c.add-self.result raised c.bounds-b.result c.bounds-b.ensures.value c.add-self.ensures.kept in
-    record { sizes = k.sizes; window = k.window; inside = k.inside; values = k.values; count = k.count; entries = k.used_is; layout = k.layout }
-
-pub returns : goal.returns
-returns c =
-    let t = c.args.self.now in
-    let ws = c.add-self.new.m in
-    let long : length ws ≡ length (vec_items t.memory) = omega arith in
-    let u = c.add-self.result in
-    let b = c.bounds-b in
-    record {
-      value = sym c.in_ok-check_append.was ∙ c.check_append.ensures.value (means t) b.ensures.means b.ensures.first;
-      after = means_after t ws long u raised b.result b.ensures.value (λ m. appended m c.args.rec.now) c.deref_mut.result.now c.deref_mut.ensures.value c.add-self.ensures.after;
-      same = length_after t ws long u raised b.result b.ensures.value;
-    }
+    rw (p.1, p.2) (c.in_err-check_append.ensures.value (means c.args.self.now) c.bounds.ensures.means c.bounds.ensures.first)

@@ -1,6 +1,0 @@
-use Rattle.std.proofs.Common.{refl, arith}
-use Rattle.std.proofs.lemmas.Slice.{put_mid-paste}
-use Rattle.stretch_table.proofs.bytes.put.Goals as goal
-
-pub returns : goal.returns
-returns c = record { after = put_mid-paste c.args.at _ c.args.m.now _ c.args.part.now _ c.copy_from_slice.ensures.after (omega arith) refl }
