@@ -1,5 +1,5 @@
 -- What each write to entries leaves them. Assumes nothing.
-use Rattle.std.proofs.Common.{◌≡◌, ℕ, ◌+◌, ◌-◌, ◌*◌, ◌^◌, ◌<◌, ◌≤◌, true, List, [], ◌∷◌, ◌++◌, length, take, drop, replicate, vec_items, sym, ap, ◌∙◌, subst, add-mul, arith, length-append}
+use Rattle.std.proofs.Common.{◌≡◌, ℕ, ◌+◌, ◌-◌, ◌*◌, ◌^◌, ◌<◌, ◌≤◌, true, List, [], ◌∷◌, ◌++◌, length, take, drop, replicate, vec_items, sym, ap, ◌∙◌, subst, arith, length-append}
 use lib.Seq.{paste}
 use Rattle.std.specs.Vec.{with_items}
 use Rattle.std.specs.List.{between}
@@ -56,12 +56,11 @@ module _ (es : Entries) (n : List ℕ) where
         (sets_record A B e (lists_as es (A ++ (e ∷ B)) is) p (there ∙ at) rec n long (put ∙ ap (paste m (p + 8) rec) long))
         (one A B e s is)
 
-    doubled : HasRoom es → n ≡ paste m (place_of (i + 1)) (drop (place_of i) m) (place_of es.used - place_of i) → Written w (es.used + 1) n (A ++ (e ∷ e ∷ B))
+    doubled : HasRoom es → n ≡ paste m (place_of i + (w + 8)) (drop (place_of i) m) (place_of es.used - place_of i) → Written w (es.used + 1) n (A ++ (e ∷ e ∷ B))
     doubled room put =
         let k = place_of es.used - place_of i in
         let all : length (A ++ (e ∷ B)) ≡ es.used = ap length (sym is) ∙ many es in
-        let up : place_of (i + 1) ≡ place_of i + (w + 8) = add-mul i 1 (w + 8) ∙ omega arith in
-        let moved = put ∙ ap (λ d. paste m d (drop (place_of i) m) k) up ∙ paste_take m (drop (place_of i) m) (place_of i + (w + 8)) k in
+        let moved = put ∙ paste_take m (drop (place_of i) m) (place_of i + (w + 8)) k in
         written w (es.used + 1) n (A ++ (e ∷ e ∷ B)) (pasted (place_of i + (w + 8)) k (take k (drop (place_of i) m)) (bytes_part k (place_of i) m (bytes_from m es.values)) moved)
         (doubles A B e (lists_as es (A ++ (e ∷ B)) is) (place_of i) at (place_of es.used) n (ap place_of (sym all)) room moved)
         (length-append A (e ∷ e ∷ B) ∙ omega (arith, all, length-append A (e ∷ B)))
@@ -96,7 +95,7 @@ grown es room =
     (length_push (held es) (stretch 0 0 (replicate es.bounds.width 0)) ∙ omega arith)
 
 pub double_turns : (es : Entries) (n : List ℕ) (i : ℕ) → i < es.used → HasRoom es
-    → n ≡ paste (vec_items es.bytes) ((i + 1) * (es.bounds.width + 8)) (drop (i * (es.bounds.width + 8)) (vec_items es.bytes)) (es.used * (es.bounds.width + 8) - i * (es.bounds.width + 8))
+    → n ≡ paste (vec_items es.bytes) (i * (es.bounds.width + 8) + (es.bounds.width + 8)) (drop (i * (es.bounds.width + 8)) (vec_items es.bytes)) (es.used * (es.bounds.width + 8) - i * (es.bounds.width + 8))
     → Turned es (es.used + 1) n i (λ e. e ∷ e ∷ [])
 double_turns es n i lt room put = turned es (es.used + 1) n i (λ e. e ∷ e ∷ []) lt (λ A B e is place. doubled es n i A B e is place room put)
 

@@ -93,8 +93,8 @@ impl Entries {
         ensures same { SameRoom self.old self.new }
     {
         let size = self.bounds.width + 8;
-        self.bytes
-            .copy_within(i * size..self.used * size, (i + 1) * size);
+        let from = i * size;
+        self.bytes.copy_within(from..self.used * size, from + size);
         self.used += 1;
     }
 

@@ -48,6 +48,7 @@ impl Entries {
             return;
         }
         let first = self.first(i);
+        // The sum is a number of runs, which is small in a table; the promise is of such stretches (`Few`).
         let count = self.count(i).saturating_add(self.count(i + 1));
         self.set_runs(i, first, count);
         self.remove(i + 1, i + 2);
