@@ -59,19 +59,13 @@ head a b p q = ap (λ l. get_or l 0 0) (sym p ∙ q)
 tail : {xs ys zs : List ℕ} {a b c d : ℕ} → xs ≡ a ∷ b ∷ ys → xs ≡ c ∷ d ∷ zs → zs ≡ ys
 tail p q = ap (drop 2) (sym q ∙ p)
 
-pub no_report : (xs rest : List ℕ) → xs ≡ 85 ∷ 32 ∷ rest → ((n : ℕ) (cs : List ℕ) → RunAndCodes rest n cs → ⊥) → (c : Said) → Spells c xs → ⊥
-no_report xs rest e no' (start cs) h = omega (arith, head 85 78 e h.1)
-no_report xs rest e no' (report n cs) h = no' n cs (subst (λ l. RunAndCodes l n cs) (tail e h.1) h.2)
-no_report xs rest e no' (preview n cs) h = omega (arith, head 85 80 e h.1)
-no_report xs rest e no' (close n) h = omega (arith, head 85 69 e h.1)
-no_report xs rest e no' verdict h = omega (arith, head 85 86 e h)
-
-pub no_preview : (xs rest : List ℕ) → xs ≡ 80 ∷ 32 ∷ rest → ((n : ℕ) (cs : List ℕ) → RunAndCodes rest n cs → ⊥) → (c : Said) → Spells c xs → ⊥
-no_preview xs rest e no' (start cs) h = omega (arith, head 80 78 e h.1)
-no_preview xs rest e no' (report n cs) h = omega (arith, head 80 85 e h.1)
-no_preview xs rest e no' (preview n cs) h = no' n cs (subst (λ l. RunAndCodes l n cs) (tail e h.1) h.2)
-no_preview xs rest e no' (close n) h = omega (arith, head 80 69 e h.1)
-no_preview xs rest e no' verdict h = omega (arith, head 80 86 e h)
+-- a line that begins as a report or a preview, and has no run and codes behind that, spells no call
+pub no_run_call : (xs rest : List ℕ) (b : ℕ) → 80 ≤ b → b < 86 → xs ≡ b ∷ 32 ∷ rest → ((n : ℕ) (cs : List ℕ) → RunAndCodes rest n cs → ⊥) → (c : Said) → Spells c xs → ⊥
+no_run_call xs rest b low high e no' (start cs) h = omega (arith, head b 78 e h.1)
+no_run_call xs rest b low high e no' (report n cs) h = no' n cs (subst (λ l. RunAndCodes l n cs) (tail e h.1) h.2)
+no_run_call xs rest b low high e no' (preview n cs) h = no' n cs (subst (λ l. RunAndCodes l n cs) (tail e h.1) h.2)
+no_run_call xs rest b low high e no' (close n) h = omega (arith, head b 69 e h.1)
+no_run_call xs rest b low high e no' verdict h = omega (arith, head b 86 e h)
 
 letter : Said → ℕ
 letter (start cs) = 78
@@ -105,30 +99,11 @@ same_run_codes xs ys m n cs cs' e a b =
 pub one_call : OneCall
 unfolding letter
 one_call bs (start cs) (start cs') h k = ap start (same_codes h.0 k.0 cs cs' (tail k.1 h.1) h.2 k.2)
-one_call bs (start cs) (report n' cs') h k = absurd (omega (arith, same_letter bs (start cs) (report n' cs') h k))
-one_call bs (start cs) (preview n' cs') h k = absurd (omega (arith, same_letter bs (start cs) (preview n' cs') h k))
-one_call bs (start cs) (close n') h k = absurd (omega (arith, same_letter bs (start cs) (close n') h k))
-one_call bs (start cs) verdict h k = absurd (omega (arith, same_letter bs (start cs) verdict h k))
-one_call bs (report n cs) (start cs') h k = absurd (omega (arith, same_letter bs (report n cs) (start cs') h k))
 one_call bs (report n cs) (report n' cs') h k = let e = same_run_codes h.0 k.0 n n' cs cs' (tail k.1 h.1) h.2 k.2 in let p = e.0 in let q = e.1 in cc
-one_call bs (report n cs) (preview n' cs') h k = absurd (omega (arith, same_letter bs (report n cs) (preview n' cs') h k))
-one_call bs (report n cs) (close n') h k = absurd (omega (arith, same_letter bs (report n cs) (close n') h k))
-one_call bs (report n cs) verdict h k = absurd (omega (arith, same_letter bs (report n cs) verdict h k))
-one_call bs (preview n cs) (start cs') h k = absurd (omega (arith, same_letter bs (preview n cs) (start cs') h k))
-one_call bs (preview n cs) (report n' cs') h k = absurd (omega (arith, same_letter bs (preview n cs) (report n' cs') h k))
 one_call bs (preview n cs) (preview n' cs') h k = let e = same_run_codes h.0 k.0 n n' cs cs' (tail k.1 h.1) h.2 k.2 in let p = e.0 in let q = e.1 in cc
-one_call bs (preview n cs) (close n') h k = absurd (omega (arith, same_letter bs (preview n cs) (close n') h k))
-one_call bs (preview n cs) verdict h k = absurd (omega (arith, same_letter bs (preview n cs) verdict h k))
-one_call bs (close n) (start cs') h k = absurd (omega (arith, same_letter bs (close n) (start cs') h k))
-one_call bs (close n) (report n' cs') h k = absurd (omega (arith, same_letter bs (close n) (report n' cs') h k))
-one_call bs (close n) (preview n' cs') h k = absurd (omega (arith, same_letter bs (close n) (preview n' cs') h k))
 one_call bs (close n) (close n') h k = ap close (same_run h.0 k.0 n n' (tail k.1 h.1) h.2 k.2)
-one_call bs (close n) verdict h k = absurd (omega (arith, same_letter bs (close n) verdict h k))
-one_call bs verdict (start cs') h k = absurd (omega (arith, same_letter bs verdict (start cs') h k))
-one_call bs verdict (report n' cs') h k = absurd (omega (arith, same_letter bs verdict (report n' cs') h k))
-one_call bs verdict (preview n' cs') h k = absurd (omega (arith, same_letter bs verdict (preview n' cs') h k))
-one_call bs verdict (close n') h k = absurd (omega (arith, same_letter bs verdict (close n') h k))
 one_call bs verdict verdict h k = refl
+one_call bs s t h k = absurd (omega (arith, same_letter bs s t h k))
 
 -- the values of the first 64 digits, each written over its digit
 pub values_kept : (digits kept codes : List ℕ) (i : ℕ) → kept ≡ take (min 64 (length digits)) digits → length kept ≤ i → codes ≡ digit_values (take i kept) ++ drop i kept → codes ≡ take 64 (digit_values digits)
