@@ -28,6 +28,7 @@ pub use table::Table;
 /// The most lines that a policy may have.
 pub const MOST_LINES: u16 = 128;
 
+// The steps that write ask for room in the count and for the last line's number: docs/DECISIONS.md says why.
 impl Table {
     /// A table of no lines.
     pub fn new() -> Table

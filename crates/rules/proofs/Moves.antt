@@ -184,9 +184,6 @@ module _ (t : List ℕ) (ns : List (List ℕ)) where
   pub chain_bad : (p : Part) {d a b : ℕ} {f g : Form} {y : SignFault} → Grows t ns p d a b f g → Bad t b y → Breaks t ns p d a f (faults.Sign y)
   chain_bad p {d} {a} {b} {f} {g} l n = record { go = λ w e. l.go w e ∙ bad_run (chain_at p g w) n }
 
-  pub grows_none : (p : Part) {d a : ℕ} {f : Form} → Grows t ns p d a a f f
-  grows_none p = record { go = λ w e. refl }
-
   -- form
   implies_joins : (f g : Form) (bs : List Bracket) (s : Signs) → run (in_rule ns (disj_read g (Some f) bs)) s ≡ run (in_rule ns (form_read (joined pair.Implies f g) bs)) s
   implies_joins f g bs (wrong e) = refl

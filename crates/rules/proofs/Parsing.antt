@@ -1,5 +1,5 @@
 -- From the moves of the machine to what the parser's functions promise.
-use Rattle.std.proofs.Common.{◌≡◌, ℕ, suc, ◌+◌, ◌-◌, ◌*◌, ◌<◌, ◌≤◌, Bool, true, false, cond, ◌&&◌, ltb, List, [], ◌∷◌, length, Some, None, Ok, Option, sym, refl, ap, ◌∙◌, subst, add-one, arith}
+use Rattle.std.proofs.Common.{◌≡◌, ℕ, suc, ◌+◌, ◌-◌, ◌*◌, ◌<◌, ◌≤◌, Bool, true, false, cond, ◌&&◌, ltb, List, [], ◌∷◌, length, Some, None, Ok, Option, sym, refl, ap, ◌∙◌, subst, arith}
 use Rattle.lines.specs.declared.line.Line.{Line}
 use Rattle.lines.specs.declared.line.Line.TheVariants as line
 use Rattle.lines.specs.declared.line.Prefix.{Prefix}
@@ -253,12 +253,12 @@ pub record PrefixStep (o : Prefix) (p q₁ q₂ q₃ : Parser) (first inner last
   pub first_is : first ≡ count_in p
   pub last_is : last ≡ inner + closing_count o
 
-pub done_prefix : {o : Prefix} {d first inner last e : ℕ} (p q₁ q₂ q₃ : Parser) → PrefixStep o p q₁ q₂ q₃ first inner last e → (x : Done a_unit q₁ (d + 1) q₂ inner) →
+pub done_prefix : {o : Prefix} {d d₁ first inner last e : ℕ} (p q₁ q₂ q₃ : Parser) → d₁ ≡ suc d → PrefixStep o p q₁ q₂ q₃ first inner last e → (x : Done a_unit q₁ d₁ q₂ inner) →
     (Goes (text_of p) (declared_in p) a_unit (suc d) e (place_of q₂) x.form → Goes (text_of p) (declared_in p) a_unit d (place_of p) (place_of q₂) (prefixed o x.form)) →
     Done a_unit p d q₃ last
-done_prefix {o} {d} {first} {inner} {last} {e} p q₁ q₂ q₃ s x move =
+done_prefix {o} {d} {d₁} {first} {inner} {last} {e} p q₁ q₂ q₃ deep s x move =
     let m = same_moved s.lead in
-    let g = subst (λ v. Goes (text_of p) (declared_in p) a_unit v (place_of q₁) (place_of q₂) x.form) (add-one d) (plain_goes p m x) in
+    let g = subst (λ v. Goes (text_of p) (declared_in p) a_unit v (place_of q₁) (place_of q₂) x.form) deep (plain_goes p m x) in
     let few = prefix_few o in
     done p q₃
     (record {
@@ -272,34 +272,34 @@ done_prefix {o} {d} {first} {inner} {last} {e} p q₁ q₂ q₃ s x move =
     (written_prefix o s.lead.lines_are s.lead.count s.first_is x.lines_are s.close.lines_are s.close.count s.last_is)
 
 -- the unit behind a sign cannot be read
-pub inner_fails : {k : Part} {d e n : ℕ} {ls : List Line} {y : GrammarFault} (p q : Parser) → Moved p q e n ls → Fails k q (d + 1) y →
+pub inner_fails : {k : Part} {d d₁ e n : ℕ} {ls : List Line} {y : GrammarFault} (p q : Parser) → d₁ ≡ suc d → Moved p q e n ls → Fails k q d₁ y →
     (Stops (text_of p) (declared_in p) k (suc d) e y → Stops (text_of p) (declared_in p) a_unit d (place_of p) y) → Fails a_unit p d y
-inner_fails {k} {d} {e} {n} {ls} {y} p q m f move =
-    fails p (move (subst (λ v. Stops (text_of p) (declared_in p) k (suc d) v y) m.place (subst (λ v. Stops (text_of p) (declared_in p) k v (place_of q) y) (add-one d) (plain_stops p (same_moved m) f))))
+inner_fails {k} {d} {d₁} {e} {n} {ls} {y} p q deep m f move =
+    fails p (move (subst (λ v. Stops (text_of p) (declared_in p) k (suc d) v y) m.place (subst (λ v. Stops (text_of p) (declared_in p) k v (place_of q) y) deep (plain_stops p (same_moved m) f))))
 
 pub same_over : {p q : Parser} {k : Kind} → Over p q k → Same p q
 same_over o = record { text = o.text; names = o.names }
 
 -- the form inside a bracket
-pub inner_goes : {d r : ℕ} {k : Kind} (p : Parser) {q s : Parser} → Over p q k → (x : Done a_form q (d + 1) s r) → Goes (text_of p) (declared_in p) a_form (suc d) (place_of q) (place_of s) x.form
-inner_goes {d} p {q} {s} m x = subst (λ v. Goes (text_of p) (declared_in p) a_form v (place_of q) (place_of s) x.form) (add-one d) (plain_goes p (same_over m) x)
+pub inner_goes : {d d₁ r : ℕ} {k : Kind} (p : Parser) {q s : Parser} → d₁ ≡ suc d → Over p q k → (x : Done a_form q d₁ s r) → Goes (text_of p) (declared_in p) a_form (suc d) (place_of q) (place_of s) x.form
+inner_goes p {q} {s} e m x = subst (λ v. Goes (text_of p) (declared_in p) a_form v (place_of q) (place_of s) x.form) e (plain_goes p (same_over m) x)
 
-pub inner_stops : {d : ℕ} {k : Kind} {y : GrammarFault} (p : Parser) {q : Parser} → Over p q k → Fails a_form q (d + 1) y →
+pub inner_stops : {d d₁ : ℕ} {k : Kind} {y : GrammarFault} (p : Parser) {q : Parser} → d₁ ≡ suc d → Over p q k → Fails a_form q d₁ y →
     (Stops (text_of p) (declared_in p) a_form (suc d) (place_of q) y → Stops (text_of p) (declared_in p) a_unit d (place_of p) y) → Fails a_unit p d y
-inner_stops {d} {k} {y} p {q} m f move = fails p (move (subst (λ v. Stops (text_of p) (declared_in p) a_form v (place_of q) y) (add-one d) (plain_stops p (same_over m) f)))
+inner_stops {d} {d₁} {k} {y} p {q} e m f move = fails p (move (subst (λ v. Stops (text_of p) (declared_in p) a_form v (place_of q) y) e (plain_stops p (same_over m) f)))
 
 -- a bracket: from p over q₁, where its form is due, and q₂, where that is read, to q₃ behind its partner
-pub done_bracket : {d r : ℕ} {k j : Kind} (p q₁ q₂ q₃ : Parser) → place_of p < place_of q₁ → place_of q₂ < place_of q₃ → Over p q₁ k → (x : Done a_form q₁ (d + 1) q₂ r) → Over q₂ q₃ j →
+pub done_bracket : {d d₁ r : ℕ} {k j : Kind} (p q₁ q₂ q₃ : Parser) → d₁ ≡ suc d → place_of p < place_of q₁ → place_of q₂ < place_of q₃ → Over p q₁ k → (x : Done a_form q₁ d₁ q₂ r) → Over q₂ q₃ j →
     (Goes (text_of p) (declared_in p) a_form (suc d) (place_of q₁) (place_of q₂) x.form → Goes (text_of p) (declared_in p) a_unit d (place_of p) (place_of q₃) x.form) →
     Done a_unit p d q₃ r
-done_bracket {d} {r} p q₁ q₂ q₃ up on s x t move =
+done_bracket {d} {d₁} {r} p q₁ q₂ q₃ e up on s x t move =
     let m = same_over s in
     let c₁ : count_in q₁ ≡ count_in p = ap (λ v. v.count) s.table in
     let c₃ : count_in q₃ ≡ count_in q₂ = ap (λ v. v.count) t.table in
     done p q₃
     (record { text = t.text ∙ x.onward.text ∙ s.text; names = t.names ∙ x.onward.names ∙ s.names; place = omega (arith, up, x.onward.place, on); credit = omega (arith, up, on, x.onward.credit, c₁, c₃) })
     (plain_atoms p m x)
-    (move (inner_goes p s x))
+    (move (inner_goes p e s x))
     (subst (λ v. Written (count_in p) (lines_in p) (kept_lines v) v.count x.form r) (sym t.table) (subst (λ v. Written v.count (kept_lines v) (lines_in q₂) (count_in q₂) x.form r) s.table x.lines_are))
 
 -- what the reader's answers say

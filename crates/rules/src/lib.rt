@@ -9,17 +9,42 @@
 ghost use Rattle.std.specs.Prelude.{◌≡◌};
 ghost use Rattle.signs.specs.Signs.{kind_of};
 ghost use Rattle.grammar.specs.Machine.{is_mark, prefix_of, since_of};
+ghost use Rattle.rules.specs.Depths.{Deeper};
 
+use grammar::GrammarFault;
 use lines::{Infix, Prefix};
 use signs::{Mark, Sign};
 
+mod depth;
 mod parser;
 mod rule;
 
+pub use depth::Depth;
 pub use parser::Parser;
 
 /// The most brackets and prefixes that may be open at once.
 const MOST_OPEN: u8 = 32;
+
+impl Depth {
+    /// Nothing is open.
+    pub fn none() -> Depth
+        ensures { result.count ≡ 0 }
+    {
+        Depth { count: 0 }
+    }
+
+    /// One deeper, behind the sign at `place`. The 33rd is refused.
+    fn deeper(self, place: usize) -> Result<Depth, GrammarFault>
+        ensures { Deeper self place result }
+    {
+        if self.count == MOST_OPEN {
+            return Err(GrammarFault::TooDeep(place));
+        }
+        Ok(Depth {
+            count: self.count + 1,
+        })
+    }
+}
 
 /// Whether the sign is this mark.
 pub fn is_mark(sign: Sign<'_>, mark: Mark) -> bool

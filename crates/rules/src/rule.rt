@@ -1,10 +1,10 @@
 //! The rule's form: one function for each rule of the grammar, which call each other in a cycle while the text that
-//! remains gets shorter.
-ghost use Rattle.std.specs.Prelude.{◌≤◌};
+//! remains gets shorter. They stay five functions: that is a form which docs/DECISIONS.md keeps.
 ghost use Rattle.rules.specs.Parts.{Takes, Reads, Room, a_unit, a_link, a_conj, a_disj, a_form};
 
+use crate::depth::Depth;
 use crate::parser::Parser;
-use crate::{MOST_OPEN, is_mark, prefix_of, since_of};
+use crate::{is_mark, prefix_of, since_of};
 use grammar::GrammarFault;
 use lines::{Infix, Line};
 use signs::{Mark, Sign};
@@ -27,10 +27,9 @@ impl<'a> Parser<'a> {
     ///
     /// Says the number of the form's last line, as do the others.
     #[cycle(parts)]
-    pub fn form(&mut self, depth: u8) -> Result<u16, GrammarFault>
-        requires deep { depth ≤ 32 }
+    pub fn form(&mut self, depth: Depth) -> Result<u16, GrammarFault>
         requires room { Room self.old }
-        ensures { Reads a_form self.old depth self.new result }
+        ensures { Reads a_form self.old depth.count self.new result }
     {
         let left = self.disj(depth)?;
         if !self.takes(Mark::Arrow)? {
@@ -43,10 +42,9 @@ impl<'a> Parser<'a> {
 
     /// disj = conj { "|" conj }
     #[cycle(parts)]
-    fn disj(&mut self, depth: u8) -> Result<u16, GrammarFault>
-        requires deep { depth ≤ 32 }
+    fn disj(&mut self, depth: Depth) -> Result<u16, GrammarFault>
         requires room { Room self.old }
-        ensures { Reads a_disj self.old depth self.new result }
+        ensures { Reads a_disj self.old depth.count self.new result }
     {
         let mut left = self.conj(depth)?;
         while self.takes(Mark::Or)? {
@@ -59,10 +57,9 @@ impl<'a> Parser<'a> {
 
     /// conj = link { "&" link }
     #[cycle(parts)]
-    fn conj(&mut self, depth: u8) -> Result<u16, GrammarFault>
-        requires deep { depth ≤ 32 }
+    fn conj(&mut self, depth: Depth) -> Result<u16, GrammarFault>
         requires room { Room self.old }
-        ensures { Reads a_conj self.old depth self.new result }
+        ensures { Reads a_conj self.old depth.count self.new result }
     {
         let mut left = self.link(depth)?;
         while self.takes(Mark::And)? {
@@ -75,12 +72,12 @@ impl<'a> Parser<'a> {
 
     /// link = unit [ ("SL" or "SG") unit ]
     #[cycle(parts)]
-    fn link(&mut self, depth: u8) -> Result<u16, GrammarFault>
-        requires deep { depth ≤ 32 }
+    fn link(&mut self, depth: Depth) -> Result<u16, GrammarFault>
         requires room { Room self.old }
-        ensures { Reads a_link self.old depth self.new result }
+        ensures { Reads a_link self.old depth.count self.new result }
     {
         let left = self.unit(depth)?;
+        // Not `takes`: one of two marks is sought, and which one it is matters.
         let mut ahead = self.reader;
         let placed = ahead.next()?;
         if let Some(op) = since_of(placed.sign) {
@@ -94,26 +91,20 @@ impl<'a> Parser<'a> {
 
     /// unit = prefix unit, or "(" form ")", or "true", "false", name
     #[cycle(parts)]
-    fn unit(&mut self, depth: u8) -> Result<u16, GrammarFault>
-        requires deep { depth ≤ 32 }
+    fn unit(&mut self, depth: Depth) -> Result<u16, GrammarFault>
         requires room { Room self.old }
-        ensures { Reads a_unit self.old depth self.new result }
+        ensures { Reads a_unit self.old depth.count self.new result }
     {
         let placed = self.reader.next()?;
         if let Some(op) = prefix_of(placed.sign) {
-            if depth == MOST_OPEN {
-                return Err(GrammarFault::TooDeep(placed.from));
-            }
+            let deeper = depth.deeper(placed.from)?;
             let first = self.table.lead(op);
-            let inner = self.unit(depth + 1)?;
+            let inner = self.unit(deeper)?;
             return Ok(self.table.close(op, first, inner));
         }
         match placed.sign {
             Sign::Mark(Mark::Open) => {
-                if depth == MOST_OPEN {
-                    return Err(GrammarFault::TooDeep(placed.from));
-                }
-                let inner = self.form(depth + 1)?;
+                let inner = self.form(depth.deeper(placed.from)?)?;
                 let partner = self.reader.next()?;
                 if !is_mark(partner.sign, Mark::Close) {
                     return Err(GrammarFault::Misfit(partner.from));

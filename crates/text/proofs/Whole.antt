@@ -67,11 +67,11 @@ upto_atoms {p} {q} f e o = subst (λ v. Upto p (name_due v) q) (sym (over_names 
 pub upto_rule : {p q r : Parser} → Upto p (rule_due (declared_in q)) q → Over q r (mark Rule) → Upto p (in_rule (declared_in r) (due [] no_lefts [])) r
 upto_rule {p} {q} {r} u o = subst (λ v. Upto p (in_rule v (due [] no_lefts [])) r) (sym (over_names o)) (upto_over (in_rule (declared_in q) (due [] no_lefts [])) head_rule_due u o refl refl)
 
-pub upto_form : {p q r : Parser} {l : ℕ} → Upto p (in_rule (declared_in q) (due [] no_lefts [])) q → (d : Done a_form q 0 r l) → Upto p (in_rule (declared_in q) (form_read d.form [])) r
-upto_form u d = record { comes = u.comes ∙ d.goes [] refl; text = d.onward.text ∙ u.text }
+pub upto_form : {p q r : Parser} {l n : ℕ} → n ≡ 0 → Upto p (in_rule (declared_in q) (due [] no_lefts [])) q → (d : Done a_form q n r l) → Upto p (in_rule (declared_in q) (form_read d.form [])) r
+upto_form none u d = record { comes = u.comes ∙ d.goes [] (sym none); text = d.onward.text ∙ u.text }
 
-pub upto_no_form : {p q : Parser} {e : GrammarFault} → Upto p (in_rule (declared_in q) (due [] no_lefts [])) q → Fails a_form q 0 e → Refuses p e
-upto_no_form u f = record { comes = u.comes ∙ f.stops [] refl }
+pub upto_no_form : {p q : Parser} {n : ℕ} {e : GrammarFault} → n ≡ 0 → Upto p (in_rule (declared_in q) (due [] no_lefts [])) q → Fails a_form q n e → Refuses p e
+upto_no_form none u f = record { comes = u.comes ∙ f.stops [] (sym none) }
 
 pub upto_stop : {p q r : Parser} {ns : List (List ℕ)} {f : Form} → Upto p (in_rule ns (form_read f [])) q → Over q r (mark Stop) → Upto p (stopped ns f) r
 upto_stop {p} {q} {r} {ns} {f} u o = upto_over (stopped ns f) head_form_read u o refl refl
@@ -100,19 +100,19 @@ from_none : {ys : List Line} {n r : ℕ} {f : Form} (k : ℕ) (xs : List Line) �
 from_none {ys} {n} {r} {f} k xs a b w = subst (λ v. Written 0 v ys n f r) b (subst (λ v. Written v xs ys n f r) a w)
 
 -- Everything together: from p over the names at q, the rule at r, its form at s and the full stop at t to the end.
-pub accepts : {p q r s t u : Parser} {l : ℕ} → Fresh p → Named q r → (d : Done a_form s 0 t l) → text_of s ≡ text_of p → Over r s (mark Rule) → Over t u (mark Stop) → {v : Parser} → Over u v end → count_in q ≡ 0 → lines_in q ≡ [] → outcome (text_of p) ≡ accepted (declared_in s) d.form → Accepts p v
-accepts {p} {q} {r} {s} {t} {u} {l} f n d same o stop {v} fin none empty comes =
+pub accepts : {p q r s t u : Parser} {l n : ℕ} → Fresh p → Named q r → (d : Done a_form s n t l) → text_of s ≡ text_of p → Over r s (mark Rule) → Over t u (mark Stop) → {v : Parser} → Over u v end → count_in q ≡ 0 → lines_in q ≡ [] → outcome (text_of p) ≡ accepted (declared_in s) d.form → Accepts p v
+accepts {p} {q} {r} {s} {t} {u} {l} f named d same o stop {v} fin none empty comes =
     let names : v.names ≡ s.names = fin.names ∙ stop.names ∙ d.onward.names in
     let text : text_of v ≡ text_of s = fin.text ∙ stop.text ∙ d.onward.text in
     let ns : declared_in v ≡ declared_in s = ap (λ m. names_of (text_of v) m) names ∙ ap (λ x. names_of x s.names) text in
     let table : v.table ≡ t.table = fin.table ∙ stop.table in
-    let before : s.table ≡ q.table = o.table ∙ n.table in
+    let before : s.table ≡ q.table = o.table ∙ named.table in
     record {
       form = d.form;
       last = l;
       text = text ∙ same;
       comes = comes ∙ ap (λ x. accepted x d.form) (sym ns);
-      some = subst (λ m. 1 ≤ m.count) (sym (names ∙ o.names)) n.some;
+      some = subst (λ m. 1 ≤ m.count) (sym (names ∙ o.names)) named.some;
       atoms = ap (λ x. declared (length x) d.form) ns ∙ d.atoms;
       lines_are = subst (λ x. Written 0 [] (kept_lines x) x.count d.form l) (sym table) (from_none (count_in s) (lines_in s) (ap (λ x. x.count) before ∙ none) (ap kept_lines before ∙ empty) d.lines_are);
     }

@@ -14,7 +14,7 @@ use grammar::GrammarFault;
 use lines::{Policy, Table};
 use names::{Names, Span};
 use refusals::{Layer, Refusal};
-use rules::{Parser, is_mark};
+use rules::{Depth, Parser, is_mark};
 use signs::{Mark, Placed, Reader, Sign, check_length};
 
 mod fault;
@@ -79,7 +79,7 @@ fn parse(parser: &mut Parser<'_>) -> Result<(), GrammarFault>
     expect(parser, Mark::Atoms)?;
     read_names(parser)?;
     expect(parser, Mark::Rule)?;
-    let _last = parser.form(0)?;
+    let _last = parser.form(Depth::none())?;
     expect(parser, Mark::Stop)?;
     expect_end(parser)?;
     Ok(())

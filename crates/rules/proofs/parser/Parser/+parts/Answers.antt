@@ -1,5 +1,5 @@
 -- The answers hand what the calls ensure to the lemmas of Parsing and Moves.
-use Rattle.std.proofs.Common.{rules, ◌≡◌, ◌+◌, ◌-◌, ◌*◌, ◌<◌, length, sym, refl, ap, ◌∙◌, arith}
+use Rattle.std.proofs.Common.{rules, ◌≡◌, ◌+◌, ◌-◌, ◌*◌, length, sym, refl, ap, ◌∙◌, arith}
 use Rattle.std.proofs.lemmas.Result.{err_from_is_err_and}
 use Rattle.lines.specs.declared.line.Infix.TheVariants as pair
 use Rattle.lines.proofs.Writing.{prefix_few, infix_few, written_yes, written_no}
@@ -201,7 +201,7 @@ link-unit-requires-in-Some t c =
     let up = ahead (over_next o) (since_goes (sym c.in-Some.ensures)) in
     let m : 8 * (length (text_of p) - place_of p) + 1 ≡ t = c.decreases in
     let less = falls p (record { reader = c.next.new.self; names = s.names; table = c.middle-side.new.self }) (q.text ∙ x.onward.text) (omega (arith, up, x.onward.place)) in
-    (omega (arith, m, less), (c.requires.deep, room_moved (room_on c.requires.room (onto x.onward)) mid up (omega (arith, infix_few c.in-Some.op))))
+    (omega (arith, m, less), room_moved (room_on c.requires.room (onto x.onward)) mid up (omega (arith, infix_few c.in-Some.op)))
 
 pub unit-unit-requires : goal.unit-unit-requires
 unit-unit-requires t c =
@@ -212,17 +212,17 @@ unit-unit-requires t c =
     let up = ahead (over_next o) (prefix_goes (sym c.in-Some.ensures)) in
     let m : 8 * (length (text_of p) - place_of p) ≡ t = c.decreases in
     let less = falls p (record { reader = c.next.new.self; names = p.names; table = c.lead-first.new.self }) q.text up in
-    (omega (arith, m, less), (omega (arith, c.requires.deep, c.if-depth-eq-MOST_OPEN.false), room_moved c.requires.room lead up (omega (arith, (prefix_few c.in-Some.op).0))))
+    (omega (arith, m, less), room_moved c.requires.room lead up (omega (arith, (prefix_few c.in-Some.op).0)))
 
 pub unit-returns-in_err-inner : goal.unit-returns-in_err-inner
 unit-returns-in_err-inner t c =
     let p = c.args.self.now in
     let q = c.in_ok-placed.ensures in
     let o = over_of p c.next.new.self (kind_of c.in_ok-placed.placed.sign) c.in_ok-placed.placed.from c.in_ok-placed.placed.to q.value q.text q.place in
-    let small : c.args.depth < 32 = omega (arith, c.requires.deep, c.if-depth-eq-MOST_OPEN.false) in
+    let d = c.in_ok-deeper.ensures in
     let lead = over_moved o c.lead-first.new.self c.lead-first.ensures.count c.lead-first.ensures.lines in
     let y = err_from_is_err_and c.from_residual-in_err-inner.result c.from_residual-in_err-inner.ensures.1 in
-    rw (y.1, y.2) (inner_fails p _ lead c.in_err-inner.ensures (λ stop. unit_prefix_stops _ _ (over_next o) (sym c.in-Some.ensures) small stop))
+    rw (y.1, y.2) (inner_fails p _ d.1 lead c.in_err-inner.ensures (λ stop. unit_prefix_stops _ _ (over_next o) (sym c.in-Some.ensures) d.0 stop))
 
 pub unit-close-requires : goal.unit-close-requires
 unit-close-requires t c =
@@ -239,11 +239,11 @@ unit-returns-in-Some t c =
     let p = c.args.self.now in
     let q = c.in_ok-placed.ensures in
     let o = over_of p c.next.new.self (kind_of c.in_ok-placed.placed.sign) c.in_ok-placed.placed.from c.in_ok-placed.placed.to q.value q.text q.place in
-    let small : c.args.depth < 32 = omega (arith, c.requires.deep, c.if-depth-eq-MOST_OPEN.false) in
+    let d = c.in_ok-deeper.ensures in
     let l = c.lead-first.ensures in
     let e = c.close.ensures in
     let s = prefix_step c.in-Some.op o (prefix_goes (sym c.in-Some.ensures)) c.lead-first.new.self c.close.new.self l.count l.lines l.value e.count e.lines e.value in
-    done_prefix p _ c.unit.new.self _ s c.in_ok-inner.ensures (λ a. unit_prefixed _ _ (over_next o) (sym c.in-Some.ensures) small a)
+    done_prefix p _ c.unit.new.self _ d.1 s c.in_ok-inner.ensures (λ a. unit_prefixed _ _ (over_next o) (sym c.in-Some.ensures) d.0 a)
 
 pub unit-returns-in_err-inner-in-Mark-Open : goal.unit-returns-in_err-inner-in-Mark-Open
 unit-returns-in_err-inner-in-Mark-Open t c =
@@ -251,9 +251,9 @@ unit-returns-in_err-inner-in-Mark-Open t c =
     let q = c.in_ok-placed.ensures in
     let is : kind_of c.in_ok-placed.placed.sign ≡ mark Open = search (rules, c.in-Mark-Open.is) in
     let o = over_as (over_of p c.next.new.self (kind_of c.in_ok-placed.placed.sign) c.in_ok-placed.placed.from c.in_ok-placed.placed.to q.value q.text q.place) is in
-    let small : c.args.depth < 32 = omega (arith, c.requires.deep, c.if-depth-eq-MOST_OPEN-2.false) in
+    let d = c.in_ok-deeper-in-Mark-Open.ensures in
     let y = err_from_is_err_and c.from_residual-in_err-inner-in-Mark-Open.result c.from_residual-in_err-inner-in-Mark-Open.ensures.1 in
-    rw (y.1, y.2) (inner_stops p o c.in_err-inner-in-Mark-Open.ensures (λ stop. unit_inner_stops _ _ (over_next o) small stop))
+    rw (y.1, y.2) (inner_stops p d.1 o c.in_err-inner-in-Mark-Open.ensures (λ stop. unit_inner_stops _ _ (over_next o) d.0 stop))
 
 pub unit-returns-in_err-partner-in-Mark-Open : goal.unit-returns-in_err-partner-in-Mark-Open
 unit-returns-in_err-partner-in-Mark-Open t c =
@@ -261,11 +261,11 @@ unit-returns-in_err-partner-in-Mark-Open t c =
     let q = c.in_ok-placed.ensures in
     let is : kind_of c.in_ok-placed.placed.sign ≡ mark Open = search (rules, c.in-Mark-Open.is) in
     let o = over_as (over_of p c.next.new.self (kind_of c.in_ok-placed.placed.sign) c.in_ok-placed.placed.from c.in_ok-placed.placed.to q.value q.text q.place) is in
-    let small : c.args.depth < 32 = omega (arith, c.requires.deep, c.if-depth-eq-MOST_OPEN-2.false) in
+    let d = c.in_ok-deeper-in-Mark-Open.ensures in
     let x = c.in_ok-inner-in-Mark-Open.ensures in
     let y = err_from_is_err_and c.from_residual-in_err-partner-in-Mark-Open.result c.from_residual-in_err-partner-in-Mark-Open.ensures.1 in
     let b = bad_in p (same_then (same_over o) (same_on x.onward)) (bad_of c.form.new.self _ c.in_err-partner-in-Mark-Open.ensures.value) in
-    rw (y.1, y.2) (fails p (unit_inner_bad _ _ (over_next o) small (inner_goes p o x) b))
+    rw (y.1, y.2) (fails p (unit_inner_bad _ _ (over_next o) d.0 (inner_goes p d.1 o x) b))
 
 pub unit-returns-else-not-is_mark : goal.unit-returns-else-not-is_mark
 unit-returns-else-not-is_mark t c =
@@ -273,13 +273,13 @@ unit-returns-else-not-is_mark t c =
     let q = c.in_ok-placed.ensures in
     let is : kind_of c.in_ok-placed.placed.sign ≡ mark Open = search (rules, c.in-Mark-Open.is) in
     let o = over_as (over_of p c.next.new.self (kind_of c.in_ok-placed.placed.sign) c.in_ok-placed.placed.from c.in_ok-placed.placed.to q.value q.text q.place) is in
-    let small : c.args.depth < 32 = omega (arith, c.requires.deep, c.if-depth-eq-MOST_OPEN-2.false) in
+    let d = c.in_ok-deeper-in-Mark-Open.ensures in
     let x = c.in_ok-inner-in-Mark-Open.ensures in
     let r = c.in_ok-partner-in-Mark-Open.ensures in
     let s = c.form.new.self in
     let z = over_as (over_of s c.next-in-Mark-Open.new.self (kind_of c.in_ok-partner-in-Mark-Open.partner.sign) c.in_ok-partner-in-Mark-Open.partner.from c.in_ok-partner-in-Mark-Open.partner.to r.value r.text r.place) (mark_is Close _ (sym c.if-not-is_mark.ensures)) in
     let m = next_in p (same_then (same_over o) (same_on x.onward)) (over_next z) in
-    done_bracket p _ s _ (ahead (over_next o) (λ e. cc)) (ahead (over_next z) (λ e. cc)) o x z (λ a. unit_bracketed _ _ (over_next o) small a m)
+    done_bracket p _ s _ d.1 (ahead (over_next o) (λ e. cc)) (ahead (over_next z) (λ e. cc)) o x z (λ a. unit_bracketed _ _ (over_next o) d.0 a m)
 
 pub unit-returns-then-not-is_mark : goal.unit-returns-then-not-is_mark
 unit-returns-then-not-is_mark t c =
@@ -287,11 +287,11 @@ unit-returns-then-not-is_mark t c =
     let q = c.in_ok-placed.ensures in
     let is : kind_of c.in_ok-placed.placed.sign ≡ mark Open = search (rules, c.in-Mark-Open.is) in
     let o = over_as (over_of p c.next.new.self (kind_of c.in_ok-placed.placed.sign) c.in_ok-placed.placed.from c.in_ok-placed.placed.to q.value q.text q.place) is in
-    let small : c.args.depth < 32 = omega (arith, c.requires.deep, c.if-depth-eq-MOST_OPEN-2.false) in
+    let d = c.in_ok-deeper-in-Mark-Open.ensures in
     let x = c.in_ok-inner-in-Mark-Open.ensures in
     let there = next_of c.form.new.self (kind_of c.in_ok-partner-in-Mark-Open.partner.sign) c.in_ok-partner-in-Mark-Open.partner.from c.in_ok-partner-in-Mark-Open.partner.to c.in_ok-partner-in-Mark-Open.ensures.value in
     let m = next_in p (same_then (same_over o) (same_on x.onward)) there in
-    fails p (unit_unclosed _ _ (over_next o) small (inner_goes p o x) m (sym c.if-not-is_mark.ensures))
+    fails p (unit_unclosed _ _ (over_next o) d.0 (inner_goes p d.1 o x) m (sym c.if-not-is_mark.ensures))
 
 pub unit-returns-in-Mark-True : goal.unit-returns-in-Mark-True
 unit-returns-in-Mark-True t c =
