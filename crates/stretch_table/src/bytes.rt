@@ -1,7 +1,7 @@
 //! Numbers in memory, and parts of it that are written and moved.
 //!
-//! These take slices of bytes and places in them, since the layout is fixed: every byte of the memory that is handed over
-//! is promised, and none is put beside it.
+//! All take a slice of bytes and a place in it: the memory is handed over, and a rule fixes each byte of it, so entries
+//! can be no values of a type.
 ghost use Rattle.std.specs.Prelude.{◌≡◌, ◌+◌, ◌-◌, ◌≤◌, ◌++◌, length, take, drop, replicate};
 ghost use Rattle.std.proofs.Math.Seq.{paste};
 ghost use Rattle.stretch_table.specs.Image.{four};

@@ -12,6 +12,8 @@ use stores::Bounds;
 /// Stretches in memory that is handed over, and the numbers of the table that they are of.
 ///
 /// Invariant: `used` entries lie in the memory, and what lies behind them is zero.
+///
+/// A count stands beside the bytes, since the memory is handed over whole and never grows or shrinks.
 #[derive(Drop)]
 pub(crate) struct Entries {
     pub(crate) bytes: Vec<u8>,
