@@ -3,12 +3,10 @@ use Rattle.std.specs.Prelude.{◌≡◌, ℕ, List, length, vec_items}
 use Rattle.std.proofs.Common.{sym, ap, subst, ◌∙◌}
 use Rattle.std.specs.Vec.{with_items}
 use Rattle.std.proofs.lemmas.List.{with_items_is}
-use Rattle.stores.specs.Bounds.{Sizes, Window}
 use Rattle.stores.specs.Meaning.{Meaning, Sound}
 use Rattle.stores.specs.declared.bounds.Bounds.{Bounds}
-use Rattle.stores.proofs.Sounds.{sound_from}
 use Rattle.stretch_table.specs.Entries.{meaning_of, Kept}
-use Rattle.stretch_table.proofs.Keeping.{bounds_are, fit}
+use Rattle.stretch_table.specs.Means.{means_sound}
 use Rattle.stretch_store.specs.declared.table.StretchTable.{StretchTable}
 use Rattle.stretch_store.specs.Table.{means, bytes_of}
 
@@ -16,11 +14,7 @@ pub table_kept : (t : StretchTable) → Kept t.records.entries.bounds t.records.
 table_kept t = t.records.kept
 
 pub table_sound : (t : StretchTable) → Sound (means t)
-table_sound t =
-    let es = t.records.entries in
-    let k = table_kept t in
-    let same = sym (bounds_are es.bounds es.used (bytes_of t) k) in
-    sound_from (means t) (subst Sizes same k.sizes) (subst Window same k.window) (fit es.bounds es.used (bytes_of t) k)
+table_sound t = means_sound t.records
 
 -- a step leaves the bytes `ws`, in `used` entries; `f` is what the call makes of the table's numbers
 module _ (t : StretchTable) (ws : List ℕ) (long : length ws ≡ length (bytes_of t)) (used : ℕ) (f : Bounds → Bounds) (b : Bounds) (is : b ≡ t.records.entries.bounds) where

@@ -17,7 +17,8 @@
 //! records. So every byte is fixed by what the table means (Image.antt in the specs of `stretch_table`), at its making and
 //! after every call: that is part of the type of its records.
 //!
-//! Rests on `stores`, whose interface it meets, and on `stretch_table`, whose records it keeps.
+//! Rests on `stores`: it has the steps of a table there, and so is a store. `stretch_table` has the records, which take
+//! those steps.
 #![tactic(auto)]
 
 mod making;

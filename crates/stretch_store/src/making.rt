@@ -9,6 +9,7 @@ use crate::table::StretchTable;
 use stores::{StoreFault, limit_for};
 use stretch_table::StretchRecords;
 
+// A row table has look-alikes of these four, which stay with each table: crates/row_table/src/making.rt says why.
 impl StretchTable {
     /// The limit that a table for records of `width` bytes has in `size` bytes of memory; an entry has 8 bytes more.
     ///
@@ -27,6 +28,7 @@ impl StretchTable {
             (λ t. (making width 8 (vec_len memory) ≡ Ok (means t).limit) × (means t ≡ empty width (means t).limit) × (bytes_of t ≡ replicate (vec_len memory) 0))
             (λ e. (making width 8 (vec_len memory) ≡ Err e.0) × (e.1 ≡ memory)) }
     {
+        // `map_err` and `?` would move the memory, which is needed behind them
         match StretchTable::limit_in(width, memory.len()) {
             Err(fault) => Err((fault, memory)),
             Ok(limit) => Ok(StretchTable {

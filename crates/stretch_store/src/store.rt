@@ -1,55 +1,35 @@
-//! The stretch table as a store.
+//! The stretch table as a table of `stores`, and so as a store: its records take the steps.
 ghost use Rattle.std.specs.Prelude.{length};
 ghost use Rattle.stretch_store.specs.Table.{means, bytes_of};
 ghost use Rattle.stretch_store.specs.Tables.{table_sound};
 
 use crate::table::StretchTable;
-use stores::{Store, StoreFault};
+use stores::{Bounds, Table};
 
-impl Store for StretchTable {
+impl Table for StretchTable {
     ghost meaning = { means };
 
     ghost size = { λ t. length (bytes_of t) };
 
     ghost sound = { table_sound };
 
-    fn width(&self) -> usize {
-        self.records.bounds().width
+    fn bounds(&self) -> Bounds {
+        self.records.bounds()
     }
 
-    fn limit(&self) -> usize {
-        self.records.bounds().limit
-    }
-
-    fn low(&self) -> u32 {
-        self.records.bounds().low
-    }
-
-    fn high(&self) -> u32 {
-        self.records.bounds().high
-    }
-
-    fn read(&self, run: u32, room: &mut [u8]) -> Result<(), StoreFault> {
-        self.records.bounds().check_record(run, room.len())?;
+    fn copy_out(&self, run: u32, room: &mut [u8]) {
         self.records.copy_out(run, room);
-        Ok(())
     }
 
-    fn write(&mut self, run: u32, rec: &[u8]) -> Result<(), StoreFault> {
-        self.records.bounds().check_record(run, rec.len())?;
+    fn replace(&mut self, run: u32, rec: &[u8]) {
         self.records.replace(run, rec);
-        Ok(())
     }
 
-    fn append(&mut self, rec: &[u8]) -> Result<(), StoreFault> {
-        self.records.bounds().check_append(rec.len())?;
+    fn add(&mut self, rec: &[u8]) {
         self.records.add(rec);
-        Ok(())
     }
 
-    fn forget(&mut self, run: u32) -> Result<(), StoreFault> {
-        self.records.bounds().check_run(run)?;
+    fn drop_below(&mut self, run: u32) {
         self.records.drop_below(run);
-        Ok(())
     }
 }

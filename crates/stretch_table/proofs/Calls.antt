@@ -6,6 +6,7 @@ use Rattle.std.proofs.lemmas.List.{length_push, length-set, drop-drop, drop_at, 
 use Rattle.std.proofs.lemmas.Bool.{and_cases, and_parts, ltb-false, ltb-true}
 use Rattle.stores.specs.Bounds.{Sizes, Window, raised, from_run}
 use Rattle.stores.specs.Making.{making}
+use Rattle.stores.specs.Meaning.{high_of}
 use Rattle.stores.specs.declared.bounds.Bounds.{Bounds}
 use Rattle.stores.proofs.Bytes.{Bytes, bytes_from, bytes_zeros}
 use Rattle.stores.proofs.Made.{made}
@@ -81,6 +82,10 @@ module _ (es : Entries) (k : Kept es.bounds es.used (vec_items es.bytes)) where
   differ : Differ (held es)
   differ = differ_in b es.used m k
 
+  -- a run that is held, by the numbers
+  pub held_in : (run : ℕ) → (b.low ≤ run) × (run ≤ high_of (meaning_of b es.used m)) → (b.low ≤ run) × (run ≤ b.high)
+  held_in run is = let n = all_runs in (is.0, omega (arith, is.1, k.window))
+
   pub few_records : length rs ≤ 1000000
   few_records = omega (arith, all_runs, k.window)
 
@@ -93,11 +98,11 @@ module _ (es : Entries) (k : Kept es.bounds es.used (vec_items es.bytes)) where
       (subst (λ (x : Bounds). Grouped x (set rs (run - x.low) rec) new.used (vec_items new.bytes)) one.0 (settles rs run few_records there))
 
   -- room for one entry more, where there is room for one run more
-  pub room_more : b.high + 1 < b.low + b.limit → HasRoom es
+  pub room_more : length rs < b.limit → HasRoom es
   room_more room =
       let few = entries_few b.low (held es) follow in
       let size = b.width + 8 in
-      let fits : suc es.used * size ≤ b.limit * size = mul-le-mul_right size (omega (arith, many es, all_runs, k.window)) in
+      let fits : suc es.used * size ≤ b.limit * size = mul-le-mul_right size (omega (arith, many es)) in
       omega (arith, k.inside)
 
   module _ (some : 0 < es.used) where
@@ -115,17 +120,15 @@ module _ (es : Entries) (k : Kept es.bounds es.used (vec_items es.bytes)) where
         subst (λ (s : Stretch). s.count ≤ 1000000) (sym reads_last)
         (omega (arith, all_runs, ap runs last.is, runs_append last.front (last.last ∷ []), runs_more last.last [], k.window))
 
-    adds_same : (rec : List ℕ) (new : Entries) (first count : ℕ) → new.bounds ≡ raised b → bytes_eq (entry_at es (es.used - 1)).kept rec ≡ true
-        → first ≡ (entry_at es (es.used - 1)).first → count ≡ (entry_at es (es.used - 1)).count
-        → ((A B : List Stretch) (e : Stretch) → held es ≡ A ++ (e ∷ B) → length A ≡ es.used - 1 → held new ≡ A ++ (stretch first (count + 1) e.kept ∷ B))
+    adds_same : (rec : List ℕ) (new : Entries) (count : ℕ) → new.bounds ≡ raised b → bytes_eq (entry_at es (es.used - 1)).kept rec ≡ true → count ≡ (entry_at es (es.used - 1)).count
+        → ((A B : List Stretch) (e : Stretch) → held es ≡ A ++ (e ∷ B) → length A ≡ es.used - 1 → held new ≡ A ++ (stretch e.first (count + 1) e.kept ∷ B))
         → Grouped (raised b) (rs ++ (rec ∷ [])) new.used (vec_items new.bytes)
-    adds_same rec new first count bounds same first_is count_is sets =
+    adds_same rec new count bounds same count_is sets =
         let A = last.front in
         let p = last.last in
         let kept : p.kept ≡ rec = ap (λ (s : Stretch). s.kept) (sym reads_last) ∙ equal_from _ rec same in
-        let begin : first ≡ p.first = first_is ∙ ap (λ (s : Stretch). s.first) reads_last in
         let more : count + 1 ≡ p.count + 1 = ap (λ n. n + 1) (count_is ∙ ap (λ (s : Stretch). s.count) reads_last) in
-        let q = stretch first (count + 1) p.kept in
+        let q = stretch p.first (count + 1) p.kept in
         let is = sets A [] p last.is place in
         let follow-there = subst (Follow b.low) last.is follow in
         let old = follow_back b.low A (p ∷ []) follow-there in
@@ -133,7 +136,7 @@ module _ (es : Entries) (k : Kept es.bounds es.used (vec_items es.bytes)) where
           held = A ++ (q ∷ []);
           holds = subst (λ (x : Bounds). Holds x.width (A ++ (q ∷ [])) (vec_items new.bytes)) bounds (lists_as new (A ++ (q ∷ [])) is);
           all = ap length (sym is) ∙ many new;
-          follow = follow_append b.low A (q ∷ []) (follow_front b.low A (p ∷ []) follow-there) (omega (arith, begin, old.0), omega arith, tt);
+          follow = follow_append b.low A (q ∷ []) (follow_front b.low A (p ∷ []) follow-there) (old.0, omega arith, tt);
           differ = differ_last A p q refl (subst Differ last.is differ);
           records =
               records_append A (q ∷ [])
@@ -175,8 +178,10 @@ module _ (es : Entries) (k : Kept es.bounds es.used (vec_items es.bytes)) where
         records = records_append (held es) (s ∷ []);
       }
 
-  raised_window : b.high < 999999 → b.high + 1 < b.low + b.limit → Window (raised b)
-  raised_window last room = (k.window.0, omega (arith, k.window), omega arith, omega arith, λ e. absurd (omega (arith, k.window)))
+  raised_window : high_of (meaning_of b es.used m) < 999999 → length rs < b.limit → Window (raised b)
+  raised_window last room =
+      let n = all_runs in
+      (k.window.0, omega (arith, k.window), omega (arith, k.window), omega (arith, k.window), λ e. absurd (omega (arith, k.window)))
 
   -- by what `ends_with` answers
   module _ (rec : List ℕ) (r : Bool) (value : r ≡ (ltb 0 es.used && bytes_eq (entry_at es (es.used - 1)).kept rec)) where
@@ -186,15 +191,15 @@ module _ (es : Entries) (k : Kept es.bounds es.used (vec_items es.bytes)) where
     pub last_small : r ≡ true → (entry_at es (es.used - 1)).count ≤ 1000000
     last_small yes' = count_small (ends yes').0
 
-    module _ (last : b.high < 999999) (room : b.high + 1 < b.low + b.limit) (new : Entries) (same : (new.bounds ≡ raised b) × (length (vec_items new.bytes) ≡ length (vec_items es.bytes))) where
+    module _ (last : high_of (meaning_of b es.used m) < 999999) (room : length rs < b.limit) (new : Entries) (same : (new.bounds ≡ raised b) × (length (vec_items new.bytes) ≡ length (vec_items es.bytes))) where
       added : Grouped (raised b) (rs ++ (rec ∷ [])) new.used (vec_items new.bytes) → IsTable (raised b) (rs ++ (rec ∷ [])) new
       added g =
           is_table (raised b) (rs ++ (rec ∷ [])) new same.0 (raised_window last room) (omega (arith, k.inside, same.1)) (length_push rs rec ∙ omega (arith, all_runs, k.window)) g
 
-      pub added_same : r ≡ true → (first count : ℕ) → first ≡ (entry_at es (es.used - 1)).first → count ≡ (entry_at es (es.used - 1)).count
-          → ((A B : List Stretch) (e : Stretch) → held es ≡ A ++ (e ∷ B) → length A ≡ es.used - 1 → held new ≡ A ++ (stretch first (count + 1) e.kept ∷ B))
+      pub added_same : r ≡ true → (count : ℕ) → count ≡ (entry_at es (es.used - 1)).count
+          → ((A B : List Stretch) (e : Stretch) → held es ≡ A ++ (e ∷ B) → length A ≡ es.used - 1 → held new ≡ A ++ (stretch e.first (count + 1) e.kept ∷ B))
           → IsTable (raised b) (rs ++ (rec ∷ [])) new
-      added_same yes' first count first_is count_is sets = added (adds_same (ends yes').0 rec new first count same.0 (ends yes').1 first_is count_is sets)
+      added_same yes' count count_is sets = added (adds_same (ends yes').0 rec new count same.0 (ends yes').1 count_is sets)
 
       pub added_new : r ≡ false → held new ≡ held es ++ (stretch (b.high + 1) 1 rec ∷ []) → IsTable (raised b) (rs ++ (rec ∷ [])) new
       added_new no' is = added (adds_new rec new same.0 (sym value ∙ no') is)

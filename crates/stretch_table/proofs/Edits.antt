@@ -48,6 +48,22 @@ module _ {w : ℕ} (A B : List Stretch) (e : Stretch) {m : List ℕ} (h : Holds 
           is = is ∙ ap (λ l. paste l p (numbers first count) 8) P.is ∙ paste_part front (numbers e.first e.count) ((e.kept ++ back) ++ rest) (numbers first count) p 8 (length_front ∙ sym place) refl refl;
         }
 
+    pub sets_count : (count : ℕ) (n : List ℕ) → count < 2 ^ 32 → n ≡ paste m (p + 4) (four count) 4 → Holds w (A ++ (stretch e.first count e.kept ∷ B)) n
+    sets_count count n few is =
+        let head = four e.first in
+        let tail = (e.kept ++ back) ++ rest in
+        let split : m ≡ (front ++ head) ++ (four e.count ++ tail) = P.is ∙ sym (append_assoc front head (four e.count ++ tail)) in
+        holds_parts A [] (stretch e.first count e.kept ∷ B) record {
+          sized_front = P.sized_front;
+          sized_mid = tt;
+          sized_back = (record { first = P.sized_back.0.first; count = few; wide = P.sized_back.0.wide }, P.sized_back.1);
+          left = P.left;
+          is =
+              is ∙ ap (λ l. paste l (p + 4) (four count) 4) split
+              ∙ paste_part (front ++ head) (four e.count) tail (four count) (p + 4) 4 (length-append front head ∙ ap (λ k. k + 4) (length_front ∙ sym place)) refl refl
+              ∙ append_assoc front head (four count ++ tail);
+        }
+
     pub sets_record : (rec n : List ℕ) → length rec ≡ w → n ≡ paste m (p + 8) rec w → Holds w (A ++ (stretch e.first e.count rec ∷ B)) n
     sets_record rec n long is =
         let head = numbers e.first e.count in

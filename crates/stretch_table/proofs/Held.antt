@@ -1,7 +1,7 @@
 -- What entries hold, as a list; what a write to their memory leaves them. Assumes nothing.
 use Rattle.std.proofs.Common.{◌≡◌, ℕ, zero, suc, ◌+◌, ◌*◌, ◌^◌, ◌<◌, ◌≤◌, true, List, [], ◌∷◌, ◌++◌, length, get_or, take, drop, vec_items, sym, ap, ◌∙◌, subst, arith, length-append, length-drop}
 use lib.Seq.{split_at}
-use Rattle.std.specs.List.{range_with_len, AllByRecursion}
+use Rattle.std.specs.List.{range_with_len}
 use Rattle.std.proofs.ByRecursion.{All-map}
 use Rattle.std.proofs.lemmas.List.{get_or_at, length-take, length-take-le}
 use Rattle.std.proofs.lemmas.List.FromFn.{length-map-range_with_len, get_or-map-range_with_len}
@@ -12,9 +12,9 @@ use Rattle.stretch_table.specs.Stretches.{Stretch}
 use Rattle.stretch_table.specs.Image.{filled}
 use Rattle.stretch_table.specs.Entries.{number_at, stretch_at, stretches_in, Sized, Holds}
 use Rattle.stretch_table.specs.Held.{held, entry_at, SameRoom}
+use Rattle.stretch_table.specs.Records.{all_counting, within}
 use Rattle.stretch_table.specs.declared.entries.Entries.{Entries}
 use Rattle.stretch_table.proofs.Edits.{reads_all}
-use Rattle.stretch_table.proofs.Places.{within}
 
 byte_at : (m : List ℕ) → Bytes m → (j : ℕ) → get_or m j 0 < 256
 byte_at [] h j = omega arith
@@ -23,10 +23,6 @@ byte_at (b ∷ m) h (suc j) = byte_at m h.1 j
 
 small : (m : List ℕ) → Bytes m → (p : ℕ) → number_at m p < 2 ^ 32
 small m h p = omega (arith, byte_at m h p, byte_at m h (p + 1), byte_at m h (p + 2), byte_at m h (p + 3))
-
-pub all_counting : (P : ℕ → Type 0) (a n : ℕ) → ((i : ℕ) → i < a + n → P i) → AllByRecursion P (range_with_len a n)
-all_counting P a zero h = tt
-all_counting P a (suc n) h = (h a (omega arith), all_counting P (a + 1) n (λ i lt. h i (omega arith)))
 
 module _ (w used : ℕ) (m : List ℕ) where
   pub counted : length (stretches_in w used m) ≡ used

@@ -1,42 +1,29 @@
 -- What is known of a stretch table's bytes, and when bytes are those of a stretch table. Assumes nothing.
 use Rattle.std.proofs.Common.{◌≡◌, ℕ, zero, suc, ◌+◌, ◌-◌, ◌*◌, ◌<◌, ◌≤◌, List, [], ◌∷◌, ◌++◌, length, replicate, vec_items, Vec, sym, ap, ◌∙◌, subst, mul-le-mul_right, arith}
 use Rattle.std.specs.Vec.{with_items}
-use Rattle.std.specs.List.{range_with_len, AllByRecursion}
-use Rattle.std.proofs.ByRecursion.{All-append, All-map, All-weaker}
-use Rattle.std.proofs.lemmas.List.{length-take, length-drop, with_items_is}
-use Rattle.stores.specs.Bounds.{Sizes, Window, bounds_of}
+use Rattle.std.specs.List.{AllByRecursion}
+use Rattle.std.proofs.ByRecursion.{All-weaker}
+use Rattle.std.proofs.lemmas.List.{with_items_is}
+use Rattle.stores.specs.Bounds.{Sizes, Window}
 use Rattle.stores.specs.Meaning.{Meaning, IsRecord}
 use Rattle.stores.specs.declared.bounds.Bounds.{Bounds}
-use Rattle.stores.proofs.Bytes.{Bytes, bytes_from, from_bytes, bytes_part}
+use Rattle.stores.proofs.Bytes.{Bytes, bytes_from, from_bytes}
 use Rattle.stretch_table.specs.Stretches.{Stretch, stretches, records_of, Follow, Differ}
 use Rattle.stretch_table.specs.Image.{filled}
-use Rattle.stretch_table.specs.Entries.{stretch_at, stretches_in, Sized, Holds, meaning_of, Kept}
+use Rattle.stretch_table.specs.Entries.{stretches_in, Sized, Holds, meaning_of, Kept}
+use Rattle.stretch_table.specs.Records.{records_fit}
 use Rattle.stretch_table.proofs.Edits.{reads_all}
 use Rattle.stretch_table.proofs.Grouping.{entries_few, ends}
-use Rattle.stretch_table.proofs.Held.{all_counting}
 use Rattle.stretch_table.proofs.Holding.{all_right}
-use Rattle.stretch_table.proofs.Places.{within}
 use Rattle.stretch_table.proofs.Stretches.{stand, alone}
 
 abbrev pub holding : Bounds → List (List ℕ) → Meaning
 holding b rs = record { width = b.width; limit = b.limit; low = b.low; records = rs }
 
-abbrev with_high : Bounds → ℕ → Bounds
-with_high b high = record { width = b.width; limit = b.limit; low = b.low; high = high }
-
 module _ {X : Type 0} (P : X → Type 0) where
-  all_replicate : (n : ℕ) (x : X) → P x → AllByRecursion P (replicate n x)
-  all_replicate zero x h = tt
-  all_replicate (suc n) x h = (h, all_replicate n x h)
-
   replicate_all : (n : ℕ) (x : X) (ys : List X) → 0 < n → AllByRecursion P (replicate n x ++ ys) → P x
   replicate_all zero x ys some h = absurd (omega arith)
   replicate_all (suc n) x ys some h = h.0
-
--- what holds of the record of each stretch, and of each record
-all_records : (P : List ℕ → Type 0) (ss : List Stretch) → AllByRecursion (λ s. P s.kept) ss → AllByRecursion P (records_of ss)
-all_records P [] h = tt
-all_records P (s ∷ ss) h = All-append P (replicate s.count s.kept) (records_of ss) (all_replicate P s.count s.kept h.0) (all_records P ss h.1)
 
 all_kept : (P : List ℕ → Type 0) (n : ℕ) (ss : List Stretch) → Follow n ss → AllByRecursion P (records_of ss) → AllByRecursion (λ s. P s.kept) ss
 all_kept P n [] f h = tt
@@ -97,13 +84,7 @@ module _ (b : Bounds) (used : ℕ) (m : List ℕ) (k : Kept b used m) where
 
   -- every entry has a record
   pub fit : AllByRecursion (IsRecord b.width) rs
-  fit =
-      all_records (IsRecord b.width) (stretches_in b.width used m)
-      (All-map (λ s. IsRecord b.width s.kept) (stretch_at b.width m) (range_with_len 0 used)
-      (all_counting _ 0 used
-      (λ i lt.
-      let f = within i used (b.width + 8) (length m) (omega arith) room in
-      (simp (length-take, length-drop) (omega arith), bytes_part b.width (i * (b.width + 8) + 8) m (bytes_from m k.values)))))
+  fit = records_fit b.width used m (bytes_from m k.values) room
 
   sized : AllByRecursion (Sized b.width) held
   sized =
@@ -138,9 +119,6 @@ module _ (b : Bounds) (used : ℕ) (m : List ℕ) (k : Kept b used m) where
 
   pub differ_in : Differ (stretches_in b.width used m)
   differ_in = subst Differ (sym same) grouped.1
-
-  pub bounds_are : bounds_of (meaning_of b used m) ≡ b
-  bounds_are = ap (with_high b) (omega (arith, k.count, k.window))
 
 -- the same, where the bytes are written into a Vec
 module _ {Z : Type 0} (v : Vec ℕ Z) {b : Bounds} {ss : List Stretch} {rs : List (List ℕ)} {ws : List ℕ} (h : Lies b ss rs ws) (long : length ws ≡ length (vec_items v))

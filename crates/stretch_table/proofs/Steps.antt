@@ -13,7 +13,7 @@ use Rattle.stretch_table.specs.Image.{four, filled}
 use Rattle.stretch_table.specs.Entries.{stretches_in}
 use Rattle.stretch_table.specs.Held.{held, HasRoom}
 use Rattle.stretch_table.specs.declared.entries.Entries.{Entries}
-use Rattle.stretch_table.proofs.Edits.{sets_numbers, sets_record, doubles, removes, grows}
+use Rattle.stretch_table.proofs.Edits.{sets_numbers, sets_count, sets_record, doubles, removes, grows}
 use Rattle.stretch_table.proofs.Held.{many, lists, lists_as, Written, written, Turned, turned}
 use Rattle.stretch_table.proofs.Pastes.{paste_take}
 
@@ -47,6 +47,13 @@ module _ (es : Entries) (n : List ℕ) where
         let s = stretch first count e.kept in
         written w es.used n (A ++ (s ∷ B)) (pasted p 8 (four first ++ four count) (number_bytes first (four count) (number_bytes count [] tt)) put)
         (sets_numbers A B e (lists_as es (A ++ (e ∷ B)) is) p (there ∙ at) first count n small few put)
+        (one A B e s is)
+
+    count_set : (p : ℕ) → p ≡ place_of i → (count : ℕ) → count < 2 ^ 32 → n ≡ paste m (p + 4) (four count) 4 → Written w es.used n (A ++ (stretch e.first count e.kept ∷ B))
+    count_set p there count few put =
+        let s = stretch e.first count e.kept in
+        written w es.used n (A ++ (s ∷ B)) (pasted (p + 4) 4 (four count) (number_bytes count [] tt) put)
+        (sets_count A B e (lists_as es (A ++ (e ∷ B)) is) p (there ∙ at) count n few put)
         (one A B e s is)
 
     record_set : (p : ℕ) → p ≡ place_of i → (rec : List ℕ) → Bytes rec → length rec ≡ w → n ≡ paste m (p + 8) rec (length rec) → Written w es.used n (A ++ (stretch e.first e.count rec ∷ B))
@@ -128,6 +135,11 @@ module _ (es : Entries) (d ws : List ℕ) (of : d ≡ vec_items es.bytes) (long 
     runs_turn first count small few put =
         let there = through (λ l. paste l p (four first ++ four count) 8) put in
         turned es es.used n i (λ e. stretch first count e.kept ∷ []) lt (λ A B e is place. runs_set es n i A B e is place p at first count small few there)
+
+    pub count_turns : (count : ℕ) → count < 2 ^ 32 → ws ≡ paste d (p + 4) (four count) 4 → Turned es es.used n i (λ e. stretch e.first count e.kept ∷ [])
+    count_turns count few put =
+        let there = through (λ l. paste l (p + 4) (four count) 4) put in
+        turned es es.used n i (λ e. stretch e.first count e.kept ∷ []) lt (λ A B e is place. count_set es n i A B e is place p at count few there)
 
     pub record_turns : (rec : List ℕ) → Bytes rec → length rec ≡ es.bounds.width → ws ≡ paste d (p + 8) rec (length rec) → Turned es es.used n i (λ e. stretch e.first e.count rec ∷ [])
     record_turns rec bytes wide put =

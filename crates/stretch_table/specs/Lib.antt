@@ -3,3 +3,4 @@ pub mod Image
 pub mod Entries
 pub mod Held
 pub mod Means
+pub mod Records

@@ -1,4 +1,7 @@
 //! Numbers in memory, and parts of it that are written and moved.
+//!
+//! All take a slice of bytes and a place in it: the memory is handed over, and a rule fixes each byte of it, so entries
+//! can be no values of a type.
 ghost use Rattle.std.specs.Prelude.{◌≡◌, ◌+◌, ◌-◌, ◌≤◌, ◌++◌, length, take, drop, replicate};
 ghost use Rattle.std.proofs.Math.Seq.{paste};
 ghost use Rattle.stretch_table.specs.Image.{four};
@@ -21,7 +24,7 @@ pub(crate) fn put(m: &mut [u8], at: usize, part: &[u8])
 }
 
 /// Writes a number in four bytes, the highest first.
-fn put_number(m: &mut [u8], at: usize, n: u32)
+pub(crate) fn put_number(m: &mut [u8], at: usize, n: u32)
     requires { at + 4 ≤ length m.old }
     ensures after { m.new ≡ paste m.old at (four n) 4 }
 {

@@ -6,12 +6,14 @@ ghost use Rattle.stretch_table.specs.Image.{filled};
 ghost use Rattle.stretch_table.specs.Stretches.{Stretch, stretch};
 ghost use Rattle.stretch_table.specs.Entries.{stretches_in};
 
-use crate::bytes::{number_at, put, put_numbers, shift_down};
+use crate::bytes::{number_at, put, put_number, put_numbers, shift_down};
 use stores::Bounds;
 
 /// Stretches in memory that is handed over, and the numbers of the table that they are of.
 ///
 /// Invariant: `used` entries lie in the memory, and what lies behind them is zero.
+///
+/// A count stands beside the bytes, since the memory is handed over whole and never grows or shrinks.
 #[derive(Drop)]
 pub(crate) struct Entries {
     pub(crate) bytes: Vec<u8>,
@@ -70,6 +72,17 @@ impl Entries {
     {
         let at = self.start(i);
         put_numbers(&mut self.bytes, at, first, count);
+    }
+
+    /// Gives the entry at place i another number of runs, which writes four bytes.
+    pub(crate) fn set_count(&mut self, i: usize, count: u32)
+        requires { i < self.old.used }
+        ensures after { Turns self.old self.new i (λ e. stretch e.first count e.kept ∷ []) }
+        ensures used { self.new.used ≡ self.old.used }
+        ensures same { SameRoom self.old self.new }
+    {
+        let at = self.start(i) + 4;
+        put_number(&mut self.bytes, at, count);
     }
 
     /// Gives the entry at place i another record.

@@ -7,9 +7,9 @@
 //! +---------+---------+-- .. --+------------+-------+
 //! ```
 //!
-//! Promises that the stretches of a list of records are the one way to group them, and of each step that a stretch table
-//! takes (make, copy out, replace, add, drop) the records that it then means. Every byte of the memory is the image of
-//! those, which is part of the type (specs/Image.antt, specs/Entries.antt). Rests on `refusals` and `stores`.
+//! Promises that the stretches of a list of records are the one way to group them, and what `stores` asks of each step of
+//! a table. Every byte of the memory is the image of the records that it then means, which is part of the type
+//! (specs/Image.antt, specs/Entries.antt). Rests on `refusals` and `stores`.
 #![tactic(auto)]
 
 ghost use Rattle.std.specs.Prelude.{◌≡◌};

@@ -1,6 +1,5 @@
-//! Making a table of records, its numbers, and its memory.
-ghost use Rattle.std.specs.Prelude.{◌≡◌, ◌≤◌, length, replicate, Ok, vec_len};
-ghost use Rattle.stores.specs.Bounds.{bounds_of};
+//! Making a table of records, and its memory.
+ghost use Rattle.std.specs.Prelude.{◌≡◌, length, replicate, Ok, vec_len};
 ghost use Rattle.stores.specs.Making.{making};
 ghost use Rattle.stores.specs.Meaning.{empty};
 ghost use Rattle.stretch_table.specs.Image.{image};
@@ -31,15 +30,6 @@ impl StretchRecords {
                 used: 0,
             },
         }
-    }
-
-    /// The numbers of the table.
-    pub fn bounds(&self) -> Bounds
-        ensures value { result ≡ self.now.entries.bounds }
-        ensures means { bounds_of (means self.now) ≡ result }
-        ensures first { 1 ≤ (means self.now).low }
-    {
-        self.entries.bounds
     }
 
     /// Every byte of the memory.

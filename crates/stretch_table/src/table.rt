@@ -1,9 +1,9 @@
 //! The records of runs, kept in entries: every byte of the memory is the one that their meaning gives it.
-ghost use Rattle.std.specs.Prelude.{◌≡◌, ◌+◌, ◌-◌, ◌<◌, ◌≤◌, length};
-ghost use Rattle.stores.specs.Meaning.{record_at, written, appended, forgotten};
+ghost use Rattle.std.specs.Prelude.{length};
 ghost use Rattle.stretch_table.specs.Entries.{Kept};
 
 use crate::entries::Entries;
+use stores::{Bounds, Table};
 
 /// Records in memory that is handed over, one entry for each stretch of runs with the same record.
 ///
@@ -15,55 +15,42 @@ pub struct StretchRecords {
     ghost kept: { Kept entries.bounds entries.used entries.bytes.items },
 }
 
-impl StretchRecords {
-    ghost use Rattle.stretch_table.specs.Means.{means, bytes_of};
+impl Table for StretchRecords {
+    ghost use Rattle.stretch_table.specs.Means.{means, means_sound, bytes_of};
 
-    /// Copies the record of a run that is held into `room`.
-    pub fn copy_out(&self, run: u32, room: &mut [u8])
-        requires held { (self.now.entries.bounds.low ≤ run) × (run ≤ self.now.entries.bounds.high) }
-        requires long { length room.old ≡ self.now.entries.bounds.width }
-        ensures after { room.new ≡ record_at (means self.now) run }
-    {
+    ghost meaning = { means };
+
+    ghost size = { λ s. length (bytes_of s) };
+
+    ghost sound = { means_sound };
+
+    fn bounds(&self) -> Bounds {
+        self.entries.bounds
+    }
+
+    fn copy_out(&self, run: u32, room: &mut [u8]) {
         let i = self.entries.find(run);
         room.copy_from_slice(self.entries.record(i));
     }
 
-    /// Replaces the record of a run that is held.
-    pub fn replace(&mut self, run: u32, rec: &[u8])
-        requires held { (self.old.entries.bounds.low ≤ run) × (run ≤ self.old.entries.bounds.high) }
-        requires long { length rec.now ≡ self.old.entries.bounds.width }
-        ensures after { means self.new ≡ written (means self.old) run rec.now }
-        ensures size { length (bytes_of self.new) ≡ length (bytes_of self.old) }
-    {
+    fn replace(&mut self, run: u32, rec: &[u8]) {
         let at = self.entries.isolate(run);
         self.entries.settle(at, rec);
     }
 
-    /// Adds a record behind those that are held, of which there are fewer than the limit.
-    pub fn add(&mut self, rec: &[u8])
-        requires room { (self.old.entries.bounds.high < 999999) × (self.old.entries.bounds.high + 1 < self.old.entries.bounds.low + self.old.entries.bounds.limit) }
-        requires long { length rec.now ≡ self.old.entries.bounds.width }
-        ensures after { means self.new ≡ appended (means self.old) rec.now }
-        ensures size { length (bytes_of self.new) ≡ length (bytes_of self.old) }
-    {
+    fn add(&mut self, rec: &[u8]) {
         let run = self.entries.bounds.high + 1;
         self.entries.bounds.high = run;
         if self.entries.ends_with(rec) {
             let last = self.entries.used - 1;
-            let first = self.entries.first(last);
             let count = self.entries.count(last);
-            self.entries.set_runs(last, first, count + 1);
+            self.entries.set_count(last, count + 1);
             return;
         }
         self.entries.push(run, rec);
     }
 
-    /// Drops the records of the runs below one that is held.
-    pub fn drop_below(&mut self, run: u32)
-        requires { (self.old.entries.bounds.low ≤ run) × (run ≤ self.old.entries.bounds.high) }
-        ensures after { means self.new ≡ forgotten (means self.old) run }
-        ensures size { length (bytes_of self.new) ≡ length (bytes_of self.old) }
-    {
+    fn drop_below(&mut self, run: u32) {
         let i = self.entries.find(run);
         let below = run - self.entries.first(i);
         let count = self.entries.count(i);

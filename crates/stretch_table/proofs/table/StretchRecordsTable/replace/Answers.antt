@@ -1,5 +1,8 @@
-use Rattle.stretch_table.proofs.Calls.{replaced}
-use Rattle.stretch_table.proofs.table.StretchRecords.replace.Goals as goal
+use Rattle.stretch_table.proofs.Calls.{held_in, replaced}
+use Rattle.stretch_table.proofs.table.StretchRecordsTable.replace.Goals as goal
+
+pub isolate-at-requires-clause-held : goal.isolate-at-requires-clause-held
+isolate-at-requires-clause-held c = let s = c.args.self.now in held_in s.entries s.kept c.args.run c.requires.held
 
 pub invariant_of-self : goal.invariant_of-self
 invariant_of-self c =

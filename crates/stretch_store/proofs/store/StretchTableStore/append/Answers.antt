@@ -1,8 +1,0 @@
-use Rattle.std.proofs.lemmas.Result.{err_from_is_err_and}
-use Rattle.stretch_store.specs.Table.{means}
-use Rattle.stretch_store.proofs.store.StretchTableStore.append.Goals as goal
-
-pub returns-in_err-check_append-clause-value : goal.returns-in_err-check_append-clause-value
-returns-in_err-check_append-clause-value c =
-    let p = err_from_is_err_and c.from_residual.result c.from_residual.ensures.1 in
-    rw (p.1, p.2) (c.in_err-check_append.ensures.value (means c.args.self.now) c.bounds.ensures.means c.bounds.ensures.first)
