@@ -10,7 +10,7 @@
 //! A slot that holds no record is zero, and so is the rest. Every byte is fixed by what the table means
 //! (specs/Image.antt), at its making and after every call: that is part of its type.
 //!
-//! Rests on `stores`, whose interface it meets.
+//! Rests on `stores`: it has the steps of a table there, and so is a store.
 #![tactic(auto)]
 
 mod making;

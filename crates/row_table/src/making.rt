@@ -8,6 +8,8 @@ ghost use Rattle.row_table.specs.Table.{means};
 use crate::table::RowTable;
 use stores::{Bounds, StoreFault, limit_for};
 
+// A stretch table has look-alikes of these four. They stay with each table: their promises name its own fields and
+// its own image, and a shared trait would have more lines than it saves.
 impl RowTable {
     /// The limit that a table for records of `width` bytes has in `size` bytes of memory.
     ///
