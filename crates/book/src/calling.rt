@@ -6,9 +6,21 @@ ghost use Rattle.meaning.specs.Calls.{ask_start, ask_report, ask_close};
 ghost use Rattle.book.specs.Books.{Every, started, reported, previewed, closed, verdict_given, truth_given, then};
 
 use crate::book::Book;
+use lines::Policy;
 use meaning::BookFault;
+use monitor::Rules;
 use scales::Scale;
 use stores::Store;
+
+fn rules_of<'a, K>(scale: &'a K, policy: &'a Policy) -> Rules<'a, K>
+    ensures { (result.scale.now ≡ scale.now) × (result.table.now ≡ lines_of policy.now) × (result.atoms ≡ policy.now.atoms) }
+{
+    Rules {
+        scale,
+        table: policy.lines(),
+        atoms: policy.atoms(),
+    }
+}
 
 impl<K: Scale, S: Store> Book<K, S> {
     /// Starts a run with its first state; the run's number.
@@ -19,11 +31,8 @@ impl<K: Scale, S: Store> Book<K, S> {
         ensures after { Every K.Scale.algebra self.old.policy (S.Store.meaning self.old.store) (λ h. S.Store.meaning self.new.store ≡ then K.Scale.algebra self.old.policy (S.Store.meaning self.old.store) h (ask_start codes.now)) }
         ensures same { (self.new.policy ≡ self.old.policy) × (self.new.scale ≡ self.old.scale) × (S.Store.size self.new.store ≡ S.Store.size self.old.store) }
     {
-        let atoms = self.policy.atoms();
         monitor::start(
-            &self.scale,
-            self.policy.lines(),
-            atoms,
+            rules_of(&self.scale, &self.policy),
             &mut self.store,
             &mut self.room.rec,
             &mut self.room.previous,
@@ -41,11 +50,8 @@ impl<K: Scale, S: Store> Book<K, S> {
         ensures reach { Every K.Scale.algebra self.old.policy (S.Store.meaning self.old.store) (λ h. IfOk result (λ p. Reach K.Scale.algebra (lines_of self.old.policy) h run codes.now p.0 × StoreReach (S.Store.meaning self.old.store) (S.Store.meaning self.new.store) run p.0)) }
         ensures same { (self.new.policy ≡ self.old.policy) × (self.new.scale ≡ self.old.scale) × (S.Store.size self.new.store ≡ S.Store.size self.old.store) }
     {
-        let atoms = self.policy.atoms();
         monitor::report(
-            &self.scale,
-            self.policy.lines(),
-            atoms,
+            rules_of(&self.scale, &self.policy),
             &mut self.store,
             &mut self.room.rec,
             &mut self.room.previous,
@@ -62,11 +68,8 @@ impl<K: Scale, S: Store> Book<K, S> {
         ensures value { Every K.Scale.algebra self.old.policy (S.Store.meaning self.old.store) (λ h. result ≡ previewed K.Scale.algebra self.old.policy (S.Store.meaning self.old.store) h run codes.now) }
         ensures same { (self.new.policy ≡ self.old.policy) × (self.new.scale ≡ self.old.scale) × (self.new.store ≡ self.old.store) }
     {
-        let atoms = self.policy.atoms();
         monitor::preview(
-            &self.scale,
-            self.policy.lines(),
-            atoms,
+            rules_of(&self.scale, &self.policy),
             &self.store,
             &mut self.room.rec,
             &mut self.room.previous,

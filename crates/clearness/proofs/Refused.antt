@@ -1,6 +1,7 @@
 -- Calls with clearer codes are refused alike: refusals go by lengths, by which bytes are codes, and by which runs there are,
 -- are open and are kept, and in all these two histories of the same events agree. Assumes nothing.
-use Rattle.std.proofs.Common.{◌≡◌, ℕ, suc, ◌+◌, ◌-◌, Bool, true, false, cond, eqb, ltb, List, length, Some, None, Option, sym, refl, ap, ap₂, inl, inr, arith}
+use Rattle.std.proofs.Common.{◌≡◌, ℕ, suc, ◌+◌, ◌-◌, Bool, true, false, cond, eqb, ltb, List, length, Some, None, Option, sym, refl, ap, ap₂, inl, inr}
+use Rattle.std.proofs.lemmas.Option.{none-some}
 use mathlib.Core.List.Forall₂
 use Rattle.scales.specs.Algebra.{Algebra, Laws}
 use Rattle.lines.specs.declared.line.Line.{Line}
@@ -12,23 +13,13 @@ use Rattle.meaning.specs.declared.fault.BookFault.{BookFault}
 use Rattle.meaning.specs.declared.fault.BookFault.TheVariants.{Count, Code, Closed, NoRuns, Gone, NoLine, Store}
 use Rattle.meaning.specs.Kept.{lowest, low_by, low}
 use Rattle.meaning.specs.Refusals.{or_else, first_bad, codes_refusal, run_refusal, open_refusal, report_refusal, room_refusal, start_refusal, verdict_refusal, truth_refusal}
+use Rattle.meaning.proofs.Refusals.{or_none}
 use Rattle.clearness.specs.Clearness.{ClearerByte, ClearerBytes}
 
 -- what is known where nothing is refused
-some_not_none : (f : BookFault) → ◌≡◌ {A = Option BookFault} (Some f) None → ⊥
-some_not_none f e = let z : ◌≡◌ {A = ℕ} 0 1 = cc in omega arith
-
-none_left : (a b : Option BookFault) → or_else a b ≡ None → a ≡ None
-none_left None b e = refl
-none_left (Some f) b e = absurd (some_not_none f e)
-
-none_right : (a b : Option BookFault) → or_else a b ≡ None → b ≡ None
-none_right None b e = e
-none_right (Some f) b e = absurd (some_not_none f e)
-
 passed : (t : Bool) (o : Option BookFault) (f : BookFault) → cond t o (Some f) ≡ None → (t ≡ true) × (o ≡ None)
 passed true o f e = (refl, e)
-passed false o f e = absurd (some_not_none f e)
+passed false o f e = absurd (none-some f (sym e))
 
 -- codes
 module _ (S : Algebra) (L : Laws S) where
@@ -64,10 +55,10 @@ module _ (S : Algebra) (L : Laws S) where
 
     module _ (g : History) where
       pub report_codes : (run : ℕ) → report_refusal S atoms g run p ≡ None → ClearCodes S q p
-      report_codes run k = clear_codes (none_right (open_refusal g run) (codes_refusal S atoms p) k)
+      report_codes run k = clear_codes ((or_none (open_refusal g run) (codes_refusal S atoms p) k).1)
 
       pub start_codes : (limit : ℕ) → start_refusal S atoms limit g p ≡ None → ClearCodes S q p
-      start_codes limit k = clear_codes (none_left (codes_refusal S atoms p) (room_refusal limit g) k)
+      start_codes limit k = clear_codes ((or_none (codes_refusal S atoms p) (room_refusal limit g) k).0)
 
 -- runs
 module _ (S : Algebra) {g h : History} (c : Clearer S h g) where

@@ -1,5 +1,7 @@
 -- When a call is refused, by what is known of the store and the call's numbers. Assumes nothing.
-use Rattle.std.proofs.Common.{◌≡◌, ℕ, ◌+◌, ◌-◌, ◌<◌, ◌≤◌, Bool, true, false, cond, eqb, ltb, List, [], length, Some, None, Ok, Err, Option, Result, sym, refl, ap, ◌∙◌, inl, inr, arith}
+use Rattle.std.proofs.Common.{◌≡◌, ℕ, ◌+◌, ◌-◌, ◌<◌, ◌≤◌, Bool, true, false, cond, eqb, ltb, List, [], length, Some, None, Ok, Err, Option, Result, IsErrAnd, sym, refl, ap, ◌∙◌, inl, inr, arith}
+use Rattle.std.proofs.lemmas.Option.{none-some}
+use Rattle.std.proofs.lemmas.Result.{err_from_is_err_and}
 use Rattle.std.proofs.lemmas.List.FromFn.{length-map-range_with_len}
 use Rattle.std.proofs.lemmas.List.{nil_from_length}
 use Rattle.std.proofs.lemmas.Bool.{cases_Bool, cases_eq, ne_eqb}
@@ -32,6 +34,10 @@ pub some_from_unless : {A : Type 0} (o : Option BookFault) (x : A) (f : BookFaul
 some_from_unless None x f e = let z : ◌≡◌ {A = ℕ} 0 1 = cc in absurd (omega arith)
 some_from_unless (Some g) x f e = cc
 
+-- a refusal that `?` passes on
+pub passed_on : {A : Type 0} (r : Result A BookFault) (o : Option BookFault) (x : A) (f : BookFault) → IsErrAnd r (λ e. e ≡ f) → o ≡ Some f → r ≡ unless o x
+passed_on r o x f h e = let p = err_from_is_err_and r h in p.1 ∙ ap Err p.2 ∙ sym (ap (λ q. unless q x) e)
+
 pub none_from_answer : (o : Option StoreFault) → ◌≡◌ {A = Result (Unit {0}) StoreFault} (Ok tt) (store.answer o) → o ≡ None
 none_from_answer None e = refl
 none_from_answer (Some f) e = let z : ◌≡◌ {A = ℕ} 0 1 = cc in absurd (omega arith)
@@ -39,9 +45,6 @@ none_from_answer (Some f) e = let z : ◌≡◌ {A = ℕ} 0 1 = cc in absurd (om
 pub some_from_answer : (o : Option StoreFault) (f : StoreFault) → ◌≡◌ {A = Result (Unit {0}) StoreFault} (Err f) (store.answer o) → o ≡ Some f
 some_from_answer None f e = let z : ◌≡◌ {A = ℕ} 0 1 = cc in absurd (omega arith)
 some_from_answer (Some g) f e = cc
-
-none_not_some : (f : BookFault) → ◌≡◌ {A = Option BookFault} (Some f) None → ⊥
-none_not_some f e = let z : ◌≡◌ {A = ℕ} 0 1 = cc in omega arith
 
 -- a meaning under the limit that it has
 pub represents : (S : Algebra) (ls : List Line) (atoms limit : ℕ) (m : Meaning) (h : History) → m ≡ meaning S ls atoms limit h → Represents S ls atoms m h
@@ -54,9 +57,9 @@ run_there newest run e = (grind (arith, nat_tests), grind (arith, nat_tests))
 pub run_taken : (newest run : ℕ) → 1 ≤ run → run ≤ newest → run_refusal newest run ≡ None
 run_taken newest run a b = grind (arith, nat_tests)
 
-or_none : (a b : Option BookFault) → or_else a b ≡ None → (a ≡ None) × (b ≡ None)
+pub or_none : (a b : Option BookFault) → or_else a b ≡ None → (a ≡ None) × (b ≡ None)
 or_none None b e = (refl, e)
-or_none (Some f) b e = absurd (none_not_some f e)
+or_none (Some f) b e = absurd (none-some f (sym e))
 
 -- what is known of a run that is open, and of codes that are a state
 pub open_since : (h : History) (run : ℕ) → open_refusal h run ≡ None → (1 ≤ run) × (run ≤ high h) × (opened h run ≡ true)
@@ -67,14 +70,14 @@ open_since h run e =
       there.1,
       elim (cases_Bool (opened h run)) [
         | inl up ↦ up
-        | inr down ↦ absurd (none_not_some (Closed run) (sym (ap (λ b. cond b None (Some (Closed run))) down) ∙ parts.1))
+        | inr down ↦ absurd (none-some (Closed run) (sym (sym (ap (λ b. cond b None (Some (Closed run))) down) ∙ parts.1)))
       ],
     )
 
 pub long_since : (S : Algebra) (atoms : ℕ) (q : List ℕ) → codes_refusal S atoms q ≡ None → length q ≡ atoms
 long_since S atoms q e = elim (cases_eq (length q) atoms) [
   | inl same ↦ same
-  | inr other ↦ absurd (none_not_some (Count (length q)) (sym (ap (λ b. cond b (first_bad S q 0) (Some (Count (length q)))) (ne_eqb (length q) atoms other)) ∙ e))
+  | inr other ↦ absurd (none-some (Count (length q)) (sym (sym (ap (λ b. cond b (first_bad S q 0) (Some (Count (length q)))) (ne_eqb (length q) atoms other)) ∙ e)))
 ]
 
 module _ (S : Algebra) (ls : List Line) (atoms : ℕ) (h : History) (m : Meaning) (rep : Represents S ls atoms m h) (sound : Sound m) where

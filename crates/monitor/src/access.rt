@@ -7,6 +7,7 @@ use stores::Store;
 pub fn fetch<S: Store>(store: &S, run: u32, rec: &mut [u8])
     ensures { Reads (S.Store.meaning store.now) (length rec.old) run rec.new }
 {
+    // A refusal is let go, as it leaves `rec` alone; to match on it would say no more.
     let _ = store.read(run, rec);
 }
 

@@ -1,4 +1,6 @@
 //! The verdict, and the truth of a line at a run.
+//!
+//! Both take a record's room and no `Rules`: these would ask a caller for a scale and a table that they never read.
 ghost use Rattle.std.specs.Prelude.{◌≡◌, ℕ, ◌+◌, ◌*◌, ◌≤◌, List, length};
 ghost use Rattle.scales.specs.Algebra.{Algebra};
 ghost use Rattle.lines.specs.declared.line.Line.{Line as Entry};

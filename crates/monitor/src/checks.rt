@@ -43,6 +43,7 @@ pub fn read_open<S: Store>(store: &S, run: u32, rec: &mut [u8]) -> Result<(), Bo
 }
 
 /// 21: the place of the first byte that the scale lacks.
+// A loop with an index over the codes is a named form.
 fn check_each<K: Scale>(scale: &K, codes: &[u8]) -> Result<(), BookFault>
     ensures value { result ≡ unless (first_bad K.Scale.algebra codes.now 0) tt }
 {

@@ -49,6 +49,7 @@ fn forget_old<S: Store>(store: &mut S, rec: &mut [u8]) -> u32
 {
     let old = store.low();
     let low = lowest_kept(store.high(), lowest_open(store, rec));
+    // Never refused: low is a run that is held.
     let _ = store.forget(low);
     low.saturating_sub(old)
 }

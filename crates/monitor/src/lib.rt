@@ -12,12 +12,15 @@ mod access;
 mod asking;
 mod checks;
 mod closing;
+mod desk;
 mod judging;
 mod reporting;
+mod rules;
 mod starting;
 mod walking;
 
 pub use asking::{truth, verdict};
 pub use closing::close;
 pub use reporting::{preview, report};
+pub use rules::Rules;
 pub use starting::start;

@@ -1,10 +1,10 @@
 -- Parts of a record that are read and written, behind its first byte. Assumes nothing.
-use Rattle.std.proofs.Common.{◌≡◌, ℕ, ◌+◌, ◌-◌, ◌*◌, ◌<◌, ◌≤◌, List, [], ◌∷◌, ◌++◌, length, get_or, take, drop, set, replicate, sym, refl, ap, ◌∙◌, arith}
+use Rattle.std.proofs.Common.{◌≡◌, ℕ, ◌+◌, ◌-◌, ◌*◌, ◌≤◌, List, [], ◌∷◌, ◌++◌, length, take, drop, set, replicate, sym, refl, ap, ◌∙◌, arith}
 use native.Mathlib.Nat.{sub-zero}
 use lib.Seq.{paste}
 use borrow.Rule.Slice.PartMut.{put_mid, post_of}
-use Rattle.std.proofs.lemmas.List.{append-nil, drop-drop, drop_all, drop-append-le, drop-take, length-take-le, length-drop, drop-replicate, replicate-append-replicate, take_rest, get_or-drop, get_or-take}
-use Rattle.meaning.specs.Records.{state_of, truths_of, with_truths, renewed}
+use Rattle.std.proofs.lemmas.List.{append-nil, drop_all, drop-append-le, drop-take, length-take-le, length-drop, drop-replicate, replicate-append-replicate, take_rest}
+use Rattle.meaning.specs.Records.{truths_of, renewed}
 
 -- what lies behind the first byte, as a pattern has it
 abbrev pub rest_of : List ℕ → List ℕ
@@ -21,18 +21,6 @@ behind_first x y =
 
 pub part_is : (x : List ℕ) (a n : ℕ) → take (a + n - a) (drop a (rest_of x)) ≡ truths_of a n x
 part_is x a n = let k : a + n - a ≡ n = omega arith in (λ i. take (k i) (drop a (rest_is x i)))
-
-pub truths_set : (x t t' : List ℕ) (a : ℕ) → t' ≡ t → put_mid 1 (length x - 1) x (put_mid a (a + length t - a) (rest_of x) t') ≡ with_truths a t x
-truths_set x t t' a same =
-    let end : a + (a + length t - a) ≡ a + length t = omega arith in
-    behind_first x _
-    ∙ (λ i. take 1 x ++ (take a (rest_is x i) ++ (same i ++ drop (a + length t - a) (drop a (rest_is x i)))))
-    ∙ ap (λ u. take 1 x ++ (state_of a x ++ (t ++ u))) (drop-drop (a + length t - a) a (drop 1 x) ∙ ap (λ n. drop n (drop 1 x)) end)
-
-pub truth_in : (x : List ℕ) (a lines line : ℕ) → line < lines → get_or (rest_of x) (a + line) 0 ≡ get_or (truths_of a lines x) line 0
-truth_in x a lines line lt =
-    ap (λ y. get_or y (a + line) 0) (rest_is x)
-    ∙ sym (get_or-drop a (drop 1 x) line 0) ∙ sym (get_or-take lines (drop a (drop 1 x)) line 0 lt)
 
 -- the next state laid over the old, and the truths over the earlier ones
 module _ (x y q q' : List ℕ) (l : ℕ) (long : length x ≡ 1 + length q + 2 * l) (same : q' ≡ q)
@@ -75,7 +63,3 @@ laid_by x y q q' f l z long filled same is =
     ap (λ t. set t 0 1) (is ∙ behind_first x _) ∙ first_one x _ (omega arith)
     ∙ (λ i. 1 ∷ (same i ++ drop (sub-zero (length q) i) (filled i)))
     ∙ ap (λ t. 1 ∷ (q ++ t)) (drop-replicate (length q) (length (rest_of x)) z ∙ ap (λ k. replicate k z) n ∙ sym (replicate-append-replicate l l z))
-
-pub set_none : (x : List ℕ) (b : ℕ) → length x < 1 → x ≡ set x 0 b
-set_none [] b l = refl
-set_none (a ∷ x) b l = absurd (omega arith)

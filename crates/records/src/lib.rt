@@ -8,8 +8,11 @@
 //! +------+-----------------+----------------------+------------------------+
 //! ```
 //!
-//! A record is its first byte and the rest. Rests on `judge` and on the definitions of `meaning`, whose
-//! specs/Records.antt names the parts.
+//! A record is its first byte and the rest, split by a slice pattern: a named form. Rests on `judge` and on the
+//! definitions of `meaning`, whose specs/Records.antt names the parts.
+//!
+//! Records are plain slices and no struct with methods: there would have to be two, of a `&[u8]` and of a `&mut [u8]`,
+//! each made anew from slice, atoms and lines at every call, and its one fact would be shown there as it is now.
 #![tactic(auto)]
 
 ghost use Rattle.std.specs.Prelude.{◌≡◌, ◌+◌, ◌*◌, ◌<◌, ◌∷◌, ◌++◌, length, replicate, Decides, slice_index, slice_set};

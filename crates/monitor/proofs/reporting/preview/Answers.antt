@@ -1,49 +1,53 @@
-use Rattle.std.proofs.Common.{◌≤◌, ◌∷◌, length, Ok, Err, sym, ap, ◌∙◌, arith}
+use Rattle.std.proofs.Common.{◌≡◌, ◌-◌, ◌≤◌, ◌∷◌, length, get_or, Ok, Err, sym, ap, ◌∙◌, arith}
 use Rattle.std.proofs.lemmas.Result.{err_from_is_err_and}
 use Rattle.logic.specs.History.{report, high}
 use Rattle.logic.specs.Rows.{verdict}
-use Rattle.meaning.specs.Records.{record_of}
+use Rattle.meaning.specs.Records.{record_of, truths_of}
 use Rattle.meaning.specs.Refusals.{report_refusal}
 use Rattle.meaning.specs.Calls.{unless}
+use Rattle.meaning.specs.Walking.{Looking, Looked, Newest}
 use Rattle.meaning.proofs.Refusals.{none_from_unless, some_from_unless, report_since}
 use Rattle.meaning.proofs.Verdicts.{verdict_after, newest_looked}
+use Rattle.monitor.proofs.Desks.{by_rules, wide_by}
 use Rattle.monitor.proofs.reporting.preview.Goals as goal
 
 pub returns-in_err-renewed_record : goal.returns-in_err-renewed_record
-returns-in_err-renewed_record g c =
-    let S = g.K.Scale.algebra in
-    let ls = c.args.table.now in
-    let run = c.args.run in
-    let q = c.args.codes.now in
-    let p = err_from_is_err_and c.from_residual.result c.from_residual.ensures.1 in
-    let f = c.in_err-renewed_record.field-0.0 in
-    record {
-      value = λ h rep.
-          p.1 ∙ ap Err p.2
-          ∙ sym (ap (λ o. unless o (verdict S ls (report run q ∷ h))) (some_from_unless (report_refusal S c.args.atoms h run q) tt f (c.in_err-renewed_record.ensures.value h rep)));
-    }
+returns-in_err-renewed_record g c = record {
+  value = λ h rep.
+      let S = g.K.Scale.algebra in
+      let d = c.args.rules in
+      let run = c.args.run in
+      let q = c.args.codes.now in
+      let p = err_from_is_err_and c.from_residual.result c.from_residual.ensures.1 in
+      p.1 ∙ ap Err p.2
+      ∙ sym (ap (λ o. unless o (verdict S d.table.now (report run q ∷ h)))
+      (some_from_unless (report_refusal S d.atoms h run q) tt c.in_err-renewed_record.field-0.0 (c.in_err-renewed_record.ensures.value h rep)));
+}
 
 pub returns : goal.returns
-returns g c =
-    let S = g.K.Scale.algebra in
-    let ls = c.args.table.now in
-    let a = c.args.atoms in
-    let run = c.args.run in
-    let q = c.args.codes.now in
-    let m = g.S.Store.meaning c.args.store.now in
-    let sound = g.met.S.Store.sound c.args.store.now in
-    let last = c.look-last.result in
-    let long = c.renewed_record.auto.rec ∙ c.requires.rec in
-    record {
-      value = λ h rep.
-          let free = none_from_unless (report_refusal S a h run q) tt tt (c.in_ok-renewed_record.ensures.value h rep) in
-          let b = c.in_ok-renewed_record.ensures.after h rep in
-          let some = b.reported.some in
-          let most = b.reported.most in
-          let one : 1 ≤ high h = omega arith in
-          let codes = (report_since S a h run q free).1 in
-          ap Ok (c.rule_truth-truth.ensures (record_of S ls (report run q ∷ h) (high h))
-          (newest_looked S ls a h m rep sound one run q codes last (length c.look-last.new.rec) c.look-last.new.rec (c.look-last.auto.rec ∙ long) (c.look-last.ensures h q b))
-          ∙ verdict_after S ls a h m rep sound one run q codes c.requires.some)
-          ∙ sym (ap (λ o. unless o (verdict S ls (report run q ∷ h))) free);
-    }
+returns g c = record {
+  value = λ h rep.
+      let S = g.K.Scale.algebra in
+      let d = c.args.rules in
+      let ls = d.table.now in
+      let run = c.args.run in
+      let q = c.args.codes.now in
+      let m = g.S.Store.meaning c.args.store.now in
+      let sound = g.met.S.Store.sound c.args.store.now in
+      let last = c.look-last.result in
+      let e = c.renewed_record.new.self in
+      let w = c.look-last.new.self in
+      let same = c.look-last.ensures.rules ∙ c.renewed_record.ensures.rules in
+      let free = none_from_unless (report_refusal S d.atoms h run q) tt tt (c.in_ok-renewed_record.ensures.value h rep) in
+      let b = c.in_ok-renewed_record.ensures.after h rep in
+      let some = b.reported.some in
+      let most = b.reported.most in
+      let one : 1 ≤ high h = omega arith in
+      let codes = (report_since S d.atoms h run q free).1 in
+      let x = record_of S ls (report run q ∷ h) (high h) in
+      let looked = by_rules d e c.renewed_record.ensures.rules (λ t a. Looking S t a m e.rec.now e.previous.now run h q → Looked S t w.rec.now run last h q) (c.look-last.ensures.looked h q) b in
+      ap Ok (by_rules d w same (λ t a. Newest m (length w.rec.now) last w.rec.now x → c.rule_truth-truth.result ≡ get_or (truths_of a (length t) x) (length t - 1) 0) (c.rule_truth-truth.ensures.value x)
+      (newest_looked S ls d.atoms h m rep sound one run q codes last (length w.rec.now) w.rec.now (wide_by d w same) looked)
+      ∙ verdict_after S ls d.atoms h m rep sound one run q codes c.requires.some)
+      ∙ sym (ap (λ o. unless o (verdict S ls (report run q ∷ h))) free);
+}

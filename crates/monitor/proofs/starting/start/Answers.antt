@@ -1,41 +1,49 @@
-use Rattle.std.proofs.Common.{◌≡◌, ◌+◌, ◌≤◌, ◌∷◌, ◌++◌, length, replicate, Some, None, Ok, Err, sym, refl, ap, ◌∙◌, arith}
+use Rattle.std.proofs.Common.{◌≡◌, ◌+◌, length, Some, None, Ok, Err, sym, ap, ◌∙◌}
 use Rattle.std.proofs.lemmas.Result.{err_from_is_err_and}
 use Rattle.stores.specs.Meaning.{Meaning, appended}
 use Rattle.stores.specs.Refusals.{append_fault}
-use Rattle.logic.specs.History.{start, high, earlier_run}
-use Rattle.logic.specs.Rows.{nos, row}
+use Rattle.logic.specs.History.{start, high}
 use Rattle.meaning.specs.declared.fault.BookFault.TheVariants.{Store}
 use Rattle.meaning.specs.Records.{record_of}
 use Rattle.meaning.specs.Kept.{meaning}
 use Rattle.meaning.specs.Refusals.{codes_refusal}
 use Rattle.meaning.specs.Calls.{unless, added}
-use Rattle.meaning.proofs.Lows.{low_most}
 use Rattle.meaning.proofs.Refusals.{none_from_unless, some_from_unless, none_from_answer, some_from_answer, long_since, turned, room_is, start_by_codes, start_by_room}
-use Rattle.meaning.proofs.Starts.{meaning_start, fresh_record}
+use Rattle.meaning.proofs.Starts.{meaning_start}
 use Rattle.meaning.proofs.Walks.{highs}
+use Rattle.monitor.proofs.Desks.{wide_by}
 use Rattle.monitor.proofs.starting.start.Goals as goal
 
-pub returns-in_err-check_codes : goal.returns-in_err-check_codes
-returns-in_err-check_codes g c =
+pub fresh_record-requires : goal.fresh_record-requires
+fresh_record-requires g c = long_since g.K.Scale.algebra c.args.rules.atoms c.args.codes.now (none_from_unless _ tt tt c.in_ok-check_codes.ensures.value)
+
+pub returns-in_err-check_codes-clause-value : goal.returns-in_err-check_codes-clause-value
+returns-in_err-check_codes-clause-value g c = λ h rep.
     let S = g.K.Scale.algebra in
-    let ls = c.args.table.now in
-    let a = c.args.atoms in
+    let a = c.args.rules.atoms in
     let q = c.args.codes.now in
-    let m = g.S.Store.meaning c.args.store.now in
     let p = err_from_is_err_and c.from_residual.result c.from_residual.ensures.1 in
     let f = c.in_err-check_codes.field-0.0 in
-    let bad = some_from_unless (codes_refusal S a q) tt f c.in_err-check_codes.ensures.value in
-    record {
-      value = λ h rep. p.1 ∙ ap Err p.2 ∙ sym (ap (λ o. unless o (high h + 1)) (start_by_codes S a m.limit h q f bad));
-      after = λ h rep. rep ∙ sym (ap (λ o. meaning S ls a m.limit (added o (start q) h)) (start_by_codes S a m.limit h q f bad));
-      same = refl;
-    }
+    p.1 ∙ ap Err p.2
+    ∙ sym (ap (λ o. unless o (high h + 1)) (start_by_codes S a (g.S.Store.meaning c.args.store.now).limit h q f (some_from_unless (codes_refusal S a q) tt f c.in_err-check_codes.ensures.value)))
+
+pub returns-in_err-check_codes-clause-after : goal.returns-in_err-check_codes-clause-after
+returns-in_err-check_codes-clause-after g c = λ h rep.
+    let S = g.K.Scale.algebra in
+    let d = c.args.rules in
+    let q = c.args.codes.now in
+    let m = g.S.Store.meaning c.args.store.now in
+    let f = c.in_err-check_codes.field-0.0 in
+    rep
+    ∙ sym (ap (λ o. meaning S d.table.now d.atoms m.limit (added o (start q) h))
+    (start_by_codes S d.atoms m.limit h q f (some_from_unless (codes_refusal S d.atoms q) tt f c.in_err-check_codes.ensures.value)))
 
 pub returns-in_err-append : goal.returns-in_err-append
 returns-in_err-append g c =
     let S = g.K.Scale.algebra in
-    let ls = c.args.table.now in
-    let a = c.args.atoms in
+    let d = c.args.rules in
+    let ls = d.table.now in
+    let a = d.atoms in
     let q = c.args.codes.now in
     let m = g.S.Store.meaning c.args.store.now in
     let sound = g.met.S.Store.sound c.args.store.now in
@@ -43,8 +51,9 @@ returns-in_err-append g c =
     let f = c.in_err-append.field-0.0 in
     let good = none_from_unless (codes_refusal S a q) tt tt c.in_ok-check_codes.ensures.value in
     let b = c.in_err-append.ensures in
-    let len = length c.judge.new.rec in
-    let long = c.judge.auto.rec ∙ c.lay.auto.rec ∙ c.row_before.auto.rec ∙ c.requires.rec in
+    let j = c.fresh_record.new.self in
+    let len = length j.rec.now in
+    let long = wide_by d j c.fresh_record.ensures.rules in
     let full = some_from_answer (append_fault m len) f b.value in
     record {
       value = λ h rep. p.1 ∙ ap Err p.2 ∙ sym (ap (λ o. unless o (high h + 1)) (start_by_room S a m.limit h q (Some (Store f)) good (sym (room_is S ls a h m rep sound len long) ∙ ap turned full)));
@@ -55,15 +64,17 @@ returns-in_err-append g c =
 pub returns : goal.returns
 returns g c =
     let S = g.K.Scale.algebra in
-    let ls = c.args.table.now in
-    let a = c.args.atoms in
+    let d = c.args.rules in
+    let ls = d.table.now in
+    let a = d.atoms in
     let q = c.args.codes.now in
     let m = g.S.Store.meaning c.args.store.now in
     let sound = g.met.S.Store.sound c.args.store.now in
     let good = none_from_unless (codes_refusal S a q) tt tt c.in_ok-check_codes.ensures.value in
     let b = c.in_ok-append.ensures in
-    let len = length c.judge.new.rec in
-    let long = c.judge.auto.rec ∙ c.lay.auto.rec ∙ c.row_before.auto.rec ∙ c.requires.rec in
+    let j = c.fresh_record.new.self in
+    let len = length j.rec.now in
+    let long = wide_by d j c.fresh_record.ensures.rules in
     let room = none_from_answer (append_fault m len) b.value in
     record {
       value = λ h rep.
@@ -71,12 +82,7 @@ returns g c =
           ap Ok run ∙ sym (ap (λ o. unless o (high h + 1)) (start_by_room S a m.limit h q None good (sym (room_is S ls a h m rep sound len long) ∙ ap turned room)));
       after = λ h rep.
           let run : c.high-run.result + 1 ≡ high h + 1 = ap (λ n. n + 1) (c.high-run.ensures.value ∙ highs S ls a m.limit h m (record_of S ls h) rep sound) in
-          let before =
-          c.row_before.ensures ls h rep c.requires.previous (λ l. let one : 1 ≤ high h = omega arith in let lo = low_most h one in omega arith) (omega arith)
-          ∙ ap (earlier_run (nos S ls) (row S ls h)) run in
-          let laid = c.lay.ensures.after ∙ ap (λ z. 1 ∷ (q ++ (replicate (length ls) z ++ replicate (length ls) z))) c.no.ensures.value in
-          let new = fresh_record S ls a m.limit h q (record { laws = g.met.K.Scale.holds; formed = c.requires.formed }) (long_since S a q good) c.lay.new.rec c.row_before.new.previous c.judge.new.out c.judge.new.rec laid before c.judge.ensures in
-          b.after ∙ ap (λ (x : Meaning). appended x c.judge.new.rec) rep ∙ ap (appended (meaning S ls a m.limit h)) new ∙ meaning_start S ls a m.limit h q
+          b.after ∙ ap (λ (x : Meaning). appended x j.rec.now) rep ∙ ap (appended (meaning S ls a m.limit h)) (c.fresh_record.ensures.fresh h rep run) ∙ meaning_start S ls a m.limit h q
           ∙ sym (ap (λ o. meaning S ls a m.limit (added o (start q) h)) (start_by_room S a m.limit h q None good (sym (room_is S ls a h m rep sound len long) ∙ ap turned room)));
       same = b.same;
     }
