@@ -1,6 +1,6 @@
 -- How the machine moves through the parts of a rule, in one text with one list of names.
 use Rattle.std.proofs.Common.{◌≡◌, ℕ, suc, ◌<◌, ◌≤◌, Bool, true, false, cond, List, [], ◌∷◌, length, Some, None, Option, sym, refl, ap, ◌∙◌, arith}
-use Rattle.std.proofs.lemmas.Bool.{cond-true, cond-false, lt-ltb, le-ltb}
+use Rattle.std.proofs.lemmas.Bool.{cond-true, cond-false, lt-ltb}
 use Rattle.lines.specs.declared.line.Prefix.{Prefix}
 use Rattle.lines.specs.declared.line.Infix.{Infix}
 use Rattle.lines.specs.declared.line.Infix.TheVariants as pair
@@ -238,18 +238,6 @@ module _ (ns : List (List ℕ)) (os : List Prefix) (l : Lefts) (bs : List Bracke
   deep_enough : (h d : ℕ) → with_prefixes os (open_brackets bs) ≡ d → d < 32 → depth_limit os bs h ≡ None
   deep_enough h d e small = let s : with_prefixes os (open_brackets bs) < 32 = omega arith in cond-true _ _ _ (lt-ltb _ _ s)
 
-  too_deep : (h d : ℕ) → with_prefixes os (open_brackets bs) ≡ d → 32 ≤ d → depth_limit os bs h ≡ Some (faults.TooDeep h)
-  too_deep h d e large = let s : 32 ≤ with_prefixes os (open_brackets bs) = omega arith in cond-false _ _ _ (le-ltb _ _ s)
-
-  no_unit : (k : Kind) → ((w : List ℕ) → k ≡ name w → ⊥) → prefix_of k ≡ None → is_mark Open k ≡ false → is_mark True k ≡ false → is_mark False k ≡ false → unit_sign ns os l bs k ≡ None
-  no_unit (name w) other a b c d = absurd (other w refl)
-  no_unit end other a b c d = refl
-  no_unit (mark m) other a b c d =
-      ap (λ v. choose v (bracket_leads (mark m)) (λ o. Some (in_rule ns (due (o ∷ os) l bs)))) a
-      ∙ cond-false (is_mark Open (mark m)) (Some (in_rule ns (due [] no_lefts ((os, l) ∷ bs)))) (true_leads (mark m)) b
-      ∙ cond-false (is_mark True (mark m)) (Some (in_rule ns (unit_read (wrapped os yes) l bs))) (false_leads (mark m)) c
-      ∙ cond-false (is_mark False (mark m)) (Some (in_rule ns (unit_read (wrapped os no) l bs))) None d
-
 no_close : (ns : List (List ℕ)) (f : Form) (b : Bracket) (bs : List Bracket) (k : Kind) → is_mark Close k ≡ false → after_form ns f (b ∷ bs) k ≡ None
 no_close ns f b bs k e = cond-false _ _ _ e ∙ cond_same (is_mark Stop k) None
   where
@@ -265,15 +253,6 @@ module _ (t : List ℕ) (ns : List (List ℕ)) where
   no_lead : {a : ℕ} {k : Kind} {f e : ℕ} (p : Point) → Next t a k f e → rule_sign ns p k ≡ None → run (in_rule ns p) (signs_from t a) ≡ refused (faults.Misfit f)
   no_lead {a} {k} {f} {e} p n r = next_run t ns p n ∙ ap (λ o. choose o (refused (faults.Misfit f)) (λ next. choose (point_limit ns p k f) (run next (signs_from t e)) refused)) r
 
-  over_limit : {a : ℕ} {k : Kind} {f e : ℕ} {y : GrammarFault} (p : Point) (q : State) → Next t a k f e → rule_sign ns p k ≡ Some q → point_limit ns p k f ≡ Some y → run (in_rule ns p) (signs_from t a) ≡ refused y
-  over_limit {a} {k} {f} {e} p q n r l =
-      next_run t ns p n
-      ∙ ap (λ o. choose o (refused (faults.Misfit f)) (λ next. choose (point_limit ns p k f) (run next (signs_from t e)) refused)) r
-      ∙ ap (λ o. choose o (run q (signs_from t e)) refused) l
-
-  pub unit_bad : {d a : ℕ} {y : SignFault} → Bad t a y → Stops t ns a_unit d a (faults.Sign y)
-  unit_bad b = record { go = λ w e. bad_run t ns (due w.0 w.1 w.2) b }
-
   pub unit_prefixed : {d a x c : ℕ} {f : Form} {k : Kind} {h : ℕ} {o : Prefix} → Next t a k h x → prefix_of k ≡ Some o → d < 32 → Goes t ns a_unit (suc d) x c f → Goes t ns a_unit d a c (prefixed o f)
   unit_prefixed {d} {a} {x} {c} {f} {k} {h} {o} n s small u = record {
     go = λ w e.
@@ -286,12 +265,6 @@ module _ (t : List ℕ) (ns : List (List ℕ)) where
     go = λ w e.
         leads t ns (due w.0 w.1 w.2) (due (o ∷ w.0) w.1 w.2) n (prefix_leads ns w.0 w.1 w.2 k o s) (prefix_limit ns w.0 w.1 w.2 k o h s ∙ deep_enough ns w.0 w.1 w.2 h d e small)
         ∙ u.go (o ∷ w.0, w.1, w.2) (ap suc e);
-  }
-
-  pub unit_prefix_deep : {d a x : ℕ} {k : Kind} {h : ℕ} {o : Prefix} → Next t a k h x → prefix_of k ≡ Some o → 32 ≤ d → Stops t ns a_unit d a (faults.TooDeep h)
-  unit_prefix_deep {d} {a} {x} {k} {h} {o} n s large = record {
-    go = λ w e.
-        over_limit (due w.0 w.1 w.2) _ n (prefix_leads ns w.0 w.1 w.2 k o s) (prefix_limit ns w.0 w.1 w.2 k o h s ∙ too_deep ns w.0 w.1 w.2 h d e large);
   }
 
   open_leads : {d a x : ℕ} {h : ℕ} (w : Around a_unit) → depth_at a_unit w ≡ d → Next t a (mark Open) h x → d < 32 → run (in_rule ns (due_at a_unit w)) (signs_from t a) ≡ run (in_rule ns (due_at a_form ((w.0, w.1) ∷ w.2))) (signs_from t x)
@@ -318,9 +291,6 @@ module _ (t : List ℕ) (ns : List (List ℕ)) where
         open_leads w e n small ∙ u.go ((w.0, w.1) ∷ w.2) (ap suc e) ∙ no_lead (form_read f ((w.0, w.1) ∷ w.2)) m (no_close ns f (w.0, w.1) w.2 k s);
   }
 
-  pub unit_bracket_deep : {d a x : ℕ} {h : ℕ} → Next t a (mark Open) h x → 32 ≤ d → Stops t ns a_unit d a (faults.TooDeep h)
-  unit_bracket_deep {d} {a} {x} {h} n large = record { go = λ w e. over_limit (due w.0 w.1 w.2) _ n refl (too_deep ns w.0 w.1 w.2 h d e large) }
-
   pub unit_true : {d a x h : ℕ} → Next t a (mark True) h x → Goes t ns a_unit d a x yes
   unit_true n = record { go = λ w e. leads t ns (due_at a_unit w) (read_at a_unit yes w) n refl refl }
 
@@ -329,9 +299,3 @@ module _ (t : List ℕ) (ns : List (List ℕ)) where
 
   pub unit_atom : {d a x h : ℕ} {v : List ℕ} → Next t a (name v) h x → is_declared ns v ≡ true → Goes t ns a_unit d a x (atom (number ns v))
   unit_atom {d} {a} {x} {h} {v} n s = record { go = λ w e. leads t ns (due_at a_unit w) (read_at a_unit (atom (number ns v)) w) n refl (cond-true _ _ _ s) }
-
-  pub unit_undeclared : {d a x h : ℕ} {v : List ℕ} → Next t a (name v) h x → is_declared ns v ≡ false → Stops t ns a_unit d a (faults.Undeclared h)
-  unit_undeclared {d} {a} {x} {h} {v} n s = record { go = λ w e. over_limit (due_at a_unit w) _ n refl (cond-false _ _ _ s) }
-
-  pub unit_misfits : {d a x h : ℕ} {k : Kind} → Next t a k h x → ((v : List ℕ) → k ≡ name v → ⊥) → prefix_of k ≡ None → is_mark Open k ≡ false → is_mark True k ≡ false → is_mark False k ≡ false → Stops t ns a_unit d a (faults.Misfit h)
-  unit_misfits {d} {a} {x} {h} {k} n other p q r s = record { go = λ w e. no_lead (due_at a_unit w) n (no_unit ns w.0 w.1 w.2 k other p q r s) }

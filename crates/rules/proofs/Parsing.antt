@@ -1,5 +1,5 @@
 -- From the moves of the machine to what the parser's functions promise.
-use Rattle.std.proofs.Common.{◌≡◌, ℕ, suc, ◌+◌, ◌-◌, ◌*◌, ◌<◌, ◌≤◌, Bool, true, false, cond, ◌&&◌, ltb, List, [], ◌∷◌, length, Some, None, Option, sym, refl, ap, ◌∙◌, subst, add-one, arith}
+use Rattle.std.proofs.Common.{◌≡◌, ℕ, suc, ◌+◌, ◌-◌, ◌*◌, ◌<◌, ◌≤◌, Bool, true, false, cond, ◌&&◌, ltb, List, [], ◌∷◌, length, Some, None, Ok, Option, sym, refl, ap, ◌∙◌, subst, add-one, arith}
 use Rattle.lines.specs.declared.line.Line.{Line}
 use Rattle.lines.specs.declared.line.Line.TheVariants as line
 use Rattle.lines.specs.declared.line.Prefix.{Prefix}
@@ -12,17 +12,18 @@ use Rattle.lines.proofs.Writing.{written_atom, written_prefix, written_infix, pr
 use Rattle.signs.specs.declared.sign.Mark.{Mark}
 use Rattle.signs.specs.declared.sign.SignFault.{SignFault}
 use Rattle.signs.specs.declared.reader.Reader.{Reader}
-use Rattle.signs.specs.Signs.{Kind, name, end, found, fault, next_sign}
+use Rattle.signs.specs.Signs.{Kind, mark, name, end, found, fault, next_sign}
 use Rattle.signs.specs.Stands.{Stands}
 use Rattle.signs.specs.Walk.{signs_from}
 use Rattle.signs.proofs.Law.{onward, signs_stand}
 use Rattle.grammar.specs.declared.fault.GrammarFault.{GrammarFault}
+use Rattle.grammar.specs.declared.fault.GrammarFault.TheVariants as faults
 use Rattle.grammar.specs.Grammar.{number}
 use Rattle.grammar.specs.Machine.{is_declared, is_mark, prefix_of, since_of, in_rule, run}
 use Rattle.names.specs.Names.{names_of, lookup}
 use Rattle.rules.specs.declared.parser.Parser.{Parser}
-use Rattle.rules.specs.Parts.{text_of, place_of, declared_in, signs_at, lines_in, count_in, Part, a_unit, a_form, due_at, read_at, Onward, Room, Done, Fails}
-use Rattle.rules.proofs.Moves.{Next, Bad, Goes, Stops, Grows, grows_none}
+use Rattle.rules.specs.Parts.{text_of, place_of, declared_in, signs_at, lines_in, count_in, Over, Passed, Unread, unread, Takes, Part, a_unit, a_form, due_at, read_at, Onward, Room, Done, Fails}
+use Rattle.rules.proofs.Moves.{Next, Bad, Goes, Stops, Grows}
 
 -- the same text and names
 pub record Same (p q : Parser) : Type 0 where
@@ -85,10 +86,10 @@ ahead {t} {a} {k} {f} {e} n other =
     omega (arith, o.from_on, o.more other)
 
 differ : {b : Bool} → b ≡ true → b ≡ false → ⊥
-differ p q = let z : ◌≡◌ {A = ℕ} 0 1 = cc in omega arith
+differ p q = cc
 
 clash : {A : Type 0} {o : Option A} {x : A} → o ≡ Some x → o ≡ None → ⊥
-clash p q = let z : ◌≡◌ {A = ℕ} 0 1 = cc in omega arith
+clash p q = cc
 
 pub mark_goes : {k : Kind} (m : Mark) → is_mark m k ≡ true → k ≡ end → ⊥
 mark_goes m s e = differ s (ap (is_mark m) e)
@@ -100,10 +101,7 @@ pub prefix_goes : {k : Kind} {o : Prefix} → prefix_of k ≡ Some o → k ≡ e
 prefix_goes s e = clash s (ap prefix_of e)
 
 pub name_goes : {k : Kind} {w : List ℕ} → k ≡ name w → k ≡ end → ⊥
-name_goes {k} {w} s e = let z : name w ≡ end = sym s ∙ e in other w z
-  where
-    other : (w : List ℕ) → ◌≡◌ {A = Kind} (name w) end → ⊥
-    other w e = let z : ◌≡◌ {A = ℕ} 0 1 = cc in omega arith
+name_goes s e = cc
 
 -- q is p at the place e, with the lines ls more, n of them
 pub record Moved (p q : Parser) (e n : ℕ) (ls : List Line) : Type 0 where
@@ -125,9 +123,6 @@ pub record Onto (p q : Parser) : Type 0 where
 
 pub onto : {p q : Parser} → Onward p q → Onto p q
 onto o = record { text = o.text; names = o.names; place = omega (arith, o.place); credit = o.credit }
-
-pub onto_none : {p : Parser} → Onto p p
-onto_none = record { text = refl; names = refl; place = omega arith; credit = omega arith }
 
 pub same_onto : {p q : Parser} → Onto p q → Same p q
 same_onto o = record { text = o.text; names = o.names }
@@ -174,9 +169,6 @@ pub record Grown (k : Part) (p : Parser) (d : ℕ) (q : Parser) (r b : ℕ) (xs 
 pub record Along (k : Part) (p : Parser) (d i : ℕ) (q : Parser) (r : ℕ) : Type 0 where
   pub on : Onto p q
   pub go : (b : ℕ) (xs : List Line) (f : Form) → Written b xs (lines_in p) (count_in p) f i → declared (length (declared_in p)) f ≡ true → Grown k p d q r b xs f
-
-pub along_none : {k : Part} {p : Parser} {d i : ℕ} → Along k p d i p i
-along_none {k} {p} = record { on = onto_none; go = λ b xs f w a. record { form = f; atoms = a; grows = grows_none (text_of p) (declared_in p) k; lines_are = w } }
 
 -- a form of two parts
 pub done_infix : {o : Infix} {j k : Part} {d left side right last e : ℕ} (p q₁ q₂ q₃ q₄ : Parser) → InfixStep o q₁ q₂ q₃ q₄ left side right last e → (x : Done j p d q₁ left) (y : Done j q₂ d q₃ right) →
@@ -285,29 +277,29 @@ pub inner_fails : {k : Part} {d e n : ℕ} {ls : List Line} {y : GrammarFault} (
 inner_fails {k} {d} {e} {n} {ls} {y} p q m f move =
     fails p (move (subst (λ v. Stops (text_of p) (declared_in p) k (suc d) v y) m.place (subst (λ v. Stops (text_of p) (declared_in p) k v (place_of q) y) (add-one d) (plain_stops p (same_moved m) f))))
 
--- q is p at the place e
-pub record Stepped (p q : Parser) (e : ℕ) : Type 0 where
-  pub text : text_of q ≡ text_of p
-  pub names : q.names ≡ p.names
-  pub place : place_of q ≡ e
-  pub table : q.table ≡ p.table
+pub same_over : {p q : Parser} {k : Kind} → Over p q k → Same p q
+same_over o = record { text = o.text; names = o.names }
 
-pub same_stepped : {p q : Parser} {e : ℕ} → Stepped p q e → Same p q
-same_stepped s = record { text = s.text; names = s.names }
+-- the form inside a bracket
+pub inner_goes : {d r : ℕ} {k : Kind} (p : Parser) {q s : Parser} → Over p q k → (x : Done a_form q (d + 1) s r) → Goes (text_of p) (declared_in p) a_form (suc d) (place_of q) (place_of s) x.form
+inner_goes {d} p {q} {s} m x = subst (λ v. Goes (text_of p) (declared_in p) a_form v (place_of q) (place_of s) x.form) (add-one d) (plain_goes p (same_over m) x)
+
+pub inner_stops : {d : ℕ} {k : Kind} {y : GrammarFault} (p : Parser) {q : Parser} → Over p q k → Fails a_form q (d + 1) y →
+    (Stops (text_of p) (declared_in p) a_form (suc d) (place_of q) y → Stops (text_of p) (declared_in p) a_unit d (place_of p) y) → Fails a_unit p d y
+inner_stops {d} {k} {y} p {q} m f move = fails p (move (subst (λ v. Stops (text_of p) (declared_in p) a_form v (place_of q) y) (add-one d) (plain_stops p (same_over m) f)))
 
 -- a bracket: from p over q₁, where its form is due, and q₂, where that is read, to q₃ behind its partner
-pub done_bracket : {d r e z : ℕ} (p q₁ q₂ q₃ : Parser) → place_of p < e → place_of q₂ < z → Stepped p q₁ e → (x : Done a_form q₁ (d + 1) q₂ r) → Stepped q₂ q₃ z →
-    (Goes (text_of p) (declared_in p) a_form (suc d) e (place_of q₂) x.form → Goes (text_of p) (declared_in p) a_unit d (place_of p) z x.form) →
+pub done_bracket : {d r : ℕ} {k j : Kind} (p q₁ q₂ q₃ : Parser) → place_of p < place_of q₁ → place_of q₂ < place_of q₃ → Over p q₁ k → (x : Done a_form q₁ (d + 1) q₂ r) → Over q₂ q₃ j →
+    (Goes (text_of p) (declared_in p) a_form (suc d) (place_of q₁) (place_of q₂) x.form → Goes (text_of p) (declared_in p) a_unit d (place_of p) (place_of q₃) x.form) →
     Done a_unit p d q₃ r
-done_bracket {d} {r} {e} {z} p q₁ q₂ q₃ up on s x t move =
-    let m = same_stepped s in
+done_bracket {d} {r} p q₁ q₂ q₃ up on s x t move =
+    let m = same_over s in
     let c₁ : count_in q₁ ≡ count_in p = ap (λ v. v.count) s.table in
     let c₃ : count_in q₃ ≡ count_in q₂ = ap (λ v. v.count) t.table in
-    let g = subst (λ v. Goes (text_of p) (declared_in p) a_form v (place_of q₁) (place_of q₂) x.form) (add-one d) (plain_goes p m x) in
     done p q₃
-    (record { text = t.text ∙ x.onward.text ∙ s.text; names = t.names ∙ x.onward.names ∙ s.names; place = omega (arith, up, s.place, t.place, x.onward.place, on); credit = omega (arith, up, on, s.place, t.place, x.onward.credit, c₁, c₃) })
+    (record { text = t.text ∙ x.onward.text ∙ s.text; names = t.names ∙ x.onward.names ∙ s.names; place = omega (arith, up, x.onward.place, on); credit = omega (arith, up, on, x.onward.credit, c₁, c₃) })
     (plain_atoms p m x)
-    (subst (λ v. Goes (text_of p) (declared_in p) a_unit d (place_of p) v x.form) (sym t.place) (move (subst (λ v. Goes (text_of p) (declared_in p) a_form (suc d) v (place_of q₂) x.form) s.place g)))
+    (move (inner_goes p s x))
     (subst (λ v. Written (count_in p) (lines_in p) (kept_lines v) v.count x.form r) (sym t.table) (subst (λ v. Written v.count (kept_lines v) (lines_in q₂) (count_in q₂) x.form r) s.table x.lines_are))
 
 -- what the reader's answers say
@@ -321,14 +313,42 @@ bad_of q e v = record { within = q.reader.within; is = sym v }
 pub moved : (q : Parser) (r : Reader) (t : Table) (e n : ℕ) (ls : List Line) → r.text.now ≡ text_of q → r.at ≡ e → t.count ≡ count_in q + n → Adds (lines_in q) ls (kept_lines t) → Moved q (record { reader = r; names = q.names; table = t }) e n ls
 moved q r t e n ls a b c d = record { text = a; names = refl; place = b; count = c; lines_are = d }
 
--- the answers of middle and end, or of the two halves of a prefix
-pub infix_step : (o : Infix) (q₁ q₃ : Parser) (r : Reader) (t u : Table) (left side right last e : ℕ) → place_of q₁ < e → r.text.now ≡ text_of q₁ → r.at ≡ e →
-    t.count ≡ count_in q₁ + middle_count o → Adds (lines_in q₁) (middle_lines o left) (kept_lines t) → side ≡ left + middle_count o →
+-- what comes of looking for a mark
+pub taken : {m : Mark} {p q : Parser} (b : Bool) → Takes m p q (Ok b) → b ≡ true → Over p q (mark m)
+taken true t e = t
+taken false t e = cc
+
+pub passed : {m : Mark} {p q : Parser} (b : Bool) → Takes m p q (Ok b) → b ≡ false → Passed m p q
+passed true t e = cc
+passed false t e = t
+
+pub passed_next : {m : Mark} {p q : Parser} → (s : Passed m p q) → Next (text_of p) (place_of p) s.sign s.from s.behind
+passed_next {m} {p} s = record { within = p.reader.within; is = s.is }
+
+pub unread_fails : {k : Part} {d : ℕ} {e : GrammarFault} (p : Parser) {q : Parser} → Same p q → Unread q e → ((y : SignFault) → Bad (text_of p) (place_of q) y → Fails k p d (faults.Sign y)) → Fails k p d e
+unread_fails p {q} m (unread {y} v) move = move y (bad_in p m (record { within = q.reader.within; is = v }))
+
+-- a sign that was read over
+pub over_of : (p : Parser) (r : Reader) (k : Kind) (f e : ℕ) → found k f e ≡ next_sign (text_of p) (place_of p) → r.text.now ≡ text_of p → r.at ≡ e → Over p (record { reader = r; names = p.names; table = p.table }) k
+over_of p r k f e v a b = record { from = f; is = sym v ∙ ap (found k f) (sym b); text = a; names = refl; table = refl }
+
+pub over_as : {p q : Parser} {k j : Kind} → Over p q k → k ≡ j → Over p q j
+over_as {p} {q} o e = subst (Over p q) e o
+
+pub over_next : {p q : Parser} {k : Kind} → (o : Over p q k) → Next (text_of p) (place_of p) k o.from (place_of q)
+over_next {p} o = record { within = p.reader.within; is = o.is }
+
+pub over_moved : {p q : Parser} {k : Kind} {n : ℕ} {ls : List Line} → Over p q k → (t : Table) → t.count ≡ count_in q + n → Adds (lines_in q) ls (kept_lines t) → Moved p (record { reader = q.reader; names = q.names; table = t }) (place_of q) n ls
+over_moved {p} {q} {k} {n} {ls} o t c l = record { text = o.text; names = o.names; place = refl; count = c ∙ ap (λ v. v.count + n) o.table; lines_are = subst (λ v. Adds (kept_lines v) ls (kept_lines t)) o.table l }
+
+-- the answers of middle and end behind an infix
+pub infix_step : (o : Infix) {q₁ q q₃ : Parser} {k : Kind} {left side right last : ℕ} → Over q₁ q k → (k ≡ end → ⊥) → (t u : Table) →
+    t.count ≡ count_in q + middle_count o → Adds (lines_in q) (middle_lines o left) (kept_lines t) → side ≡ left + middle_count o →
     u.count ≡ count_in q₃ + ending_count o → Adds (lines_in q₃) (ending_lines o side right) (kept_lines u) → last ≡ right + ending_count o →
-    InfixStep o q₁ (record { reader = r; names = q₁.names; table = t }) q₃ (record { reader = q₃.reader; names = q₃.names; table = u }) left side right last e
-infix_step o q₁ q₃ r t u left side right last e h a b c d s f g l = record {
-  step = h;
-  mid = moved q₁ r t e (middle_count o) (middle_lines o left) a b c d;
+    InfixStep o q₁ (record { reader = q.reader; names = q.names; table = t }) q₃ (record { reader = q₃.reader; names = q₃.names; table = u }) left side right last (place_of q)
+infix_step o {q₁} {q} {q₃} {k} {left} {side} {right} {last} over other t u c d s f g l = record {
+  step = ahead (over_next over) other;
+  mid = over_moved over t c d;
   fin = moved q₃ q₃.reader u (place_of q₃) (ending_count o) (ending_lines o side right) refl refl f g;
   side_is = s;
   last_is = l;
@@ -345,30 +365,17 @@ room_moved {p} {q} {e} {n} r m h few = record { short = subst (λ v. length v �
 pub falls : (p q : Parser) → text_of q ≡ text_of p → place_of p < place_of q → 8 * (length (text_of q) - place_of q) + 4 < 8 * (length (text_of p) - place_of p)
 falls p q same up = let n : length (text_of q) ≡ length (text_of p) = ap length same in omega (arith, q.reader.within)
 
-pub prefix_step : (o : Prefix) (p q₂ : Parser) (r : Reader) (t u : Table) (first inner last e : ℕ) → place_of p < e → r.text.now ≡ text_of p → r.at ≡ e →
-    t.count ≡ count_in p + leading_count o → Adds (lines_in p) (leading_lines o) (kept_lines t) → first ≡ count_in p →
+pub prefix_step : (o : Prefix) {p q q₂ : Parser} {k : Kind} {first inner last : ℕ} → Over p q k → (k ≡ end → ⊥) → (t u : Table) →
+    t.count ≡ count_in q + leading_count o → Adds (lines_in q) (leading_lines o) (kept_lines t) → first ≡ count_in q →
     u.count ≡ count_in q₂ + closing_count o → Adds (lines_in q₂) (closing_lines o first inner) (kept_lines u) → last ≡ inner + closing_count o →
-    PrefixStep o p (record { reader = r; names = p.names; table = t }) q₂ (record { reader = q₂.reader; names = q₂.names; table = u }) first inner last e
-prefix_step o p q₂ r t u first inner last e h a b c d s f g l = record {
-  step = h;
-  lead = moved p r t e (leading_count o) (leading_lines o) a b c d;
+    PrefixStep o p (record { reader = q.reader; names = q.names; table = t }) q₂ (record { reader = q₂.reader; names = q₂.names; table = u }) first inner last (place_of q)
+prefix_step o {p} {q} {q₂} {k} {first} {inner} {last} over other t u c d s f g l = record {
+  step = ahead (over_next over) other;
+  lead = over_moved over t c d;
   close = moved q₂ q₂.reader u (place_of q₂) (closing_count o) (closing_lines o first inner) refl refl f g;
-  first_is = s;
+  first_is = s ∙ ap (λ v. v.count) over.table;
   last_is = l;
 }
-
-pub stepped : (p : Parser) (r : Reader) (e : ℕ) → r.text.now ≡ text_of p → r.at ≡ e → Stepped p (record { reader = r; names = p.names; table = p.table }) e
-stepped p r e a b = record { text = a; names = refl; place = b; table = refl }
-
--- the form inside a bracket
-pub inner_goes : {d r e : ℕ} (p q s : Parser) → Stepped p q e → (x : Done a_form q (d + 1) s r) → Goes (text_of p) (declared_in p) a_form (suc d) e (place_of s) x.form
-inner_goes {d} {r} {e} p q s m x =
-    subst (λ v. Goes (text_of p) (declared_in p) a_form (suc d) v (place_of s) x.form) m.place (subst (λ v. Goes (text_of p) (declared_in p) a_form v (place_of q) (place_of s) x.form) (add-one d) (plain_goes p (same_stepped m) x))
-
-pub inner_stops : {d e : ℕ} {y : GrammarFault} (p q : Parser) → Stepped p q e → Fails a_form q (d + 1) y →
-    (Stops (text_of p) (declared_in p) a_form (suc d) e y → Stops (text_of p) (declared_in p) a_unit d (place_of p) y) → Fails a_unit p d y
-inner_stops {d} {e} {y} p q m f move =
-    fails p (move (subst (λ v. Stops (text_of p) (declared_in p) a_form (suc d) v y) m.place (subst (λ v. Stops (text_of p) (declared_in p) a_form v (place_of q) y) (add-one d) (plain_stops p (same_stepped m) f))))
 
 -- an atom that is found
 pub found_atom : (ns : List (List ℕ)) (w : List ℕ) (i : ℕ) → Some i ≡ lookup ns w → (is_declared ns w ≡ true) × (i ≡ number ns w)
@@ -377,13 +384,6 @@ found_atom ns w i e = go (is_declared ns w) refl e
     go : (b : Bool) → is_declared ns w ≡ b → Some i ≡ cond b (Some (number ns w)) None → (is_declared ns w ≡ true) × (i ≡ number ns w)
     go true h e = (h, cc)
     go false h e = absurd (clash (sym e) refl)
-
-pub missing_atom : (ns : List (List ℕ)) (w : List ℕ) → None ≡ lookup ns w → is_declared ns w ≡ false
-missing_atom ns w e = go (is_declared ns w) refl e
-  where
-    go : (b : Bool) → is_declared ns w ≡ b → None ≡ cond b (Some (number ns w)) None → is_declared ns w ≡ false
-    go true h e = absurd (clash refl (sym e))
-    go false h e = h
 
 pub done_atom : {d x i r : ℕ} (v : List ℕ) (p q : Parser) → Moved p q x 1 (line.Atom i ∷ []) → place_of p < x → Some i ≡ lookup (declared_in p) v → Goes (text_of p) (declared_in p) a_unit d (place_of p) x (atom (number (declared_in p) v)) → r ≡ count_in p → Done a_unit p d q r
 done_atom {d} {x} {i} {r} v p q m h f g e =

@@ -1,13 +1,17 @@
 -- What it means that a part of the rule was read: from one place to another the machine goes from where the part is
 -- due to where it is read, and the lines of its form were written. Assumes nothing.
-use Rattle.std.specs.Prelude.{◌≡◌, ℕ, ◌+◌, ◌*◌, ◌<◌, ◌≤◌, true, List, [], length, None, Ok, Err, Option, Result}
+use Rattle.std.specs.Prelude.{◌≡◌, ℕ, ◌+◌, ◌*◌, ◌<◌, ◌≤◌, Bool, true, false, List, [], length, None, Ok, Err, Option, Result}
 use Rattle.lines.specs.declared.line.Line.{Line}
 use Rattle.lines.specs.declared.line.Prefix.{Prefix}
 use Rattle.lines.specs.Forms.{Form, declared}
 use Rattle.lines.specs.Written.{kept_lines, Written}
+use Rattle.signs.specs.declared.sign.Mark.{Mark}
+use Rattle.signs.specs.declared.sign.SignFault.{SignFault}
+use Rattle.signs.specs.Signs.{Kind, mark, found, fault, next_sign}
 use Rattle.signs.specs.Walk.{Signs, signs_from}
 use Rattle.grammar.specs.declared.fault.GrammarFault.{GrammarFault}
-use Rattle.grammar.specs.Machine.{wrapped, Lefts, Bracket, Point, due, unit_read, link_read, conj_read, disj_read, form_read, in_rule, lefts, no_lefts, with_prefixes, open_brackets, run, refused}
+use Rattle.grammar.specs.declared.fault.GrammarFault.TheVariants as faults
+use Rattle.grammar.specs.Machine.{is_mark, wrapped, Lefts, Bracket, Point, due, unit_read, link_read, conj_read, disj_read, form_read, in_rule, lefts, no_lefts, with_prefixes, open_brackets, run, refused}
 use Rattle.names.specs.Names.{names_of}
 use Rattle.rules.specs.declared.parser.Parser.{Parser}
 
@@ -28,6 +32,32 @@ lines_in p = kept_lines p.table
 
 abbrev pub count_in : Parser → ℕ
 count_in p = p.table.count
+
+-- the sign k came next, and the parser stands behind it
+pub record Over (p q : Parser) (k : Kind) : Type 0 where
+  pub from : ℕ
+  pub is : next_sign (text_of p) (place_of p) ≡ found k from (place_of q)
+  pub text : text_of q ≡ text_of p
+  pub names : q.names ≡ p.names
+  pub table : q.table ≡ p.table
+
+-- another sign than the mark m came next, and the parser stays before it
+pub record Passed (m : Mark) (p q : Parser) : Type 0 where
+  pub sign : Kind
+  pub from : ℕ
+  pub behind : ℕ
+  pub is : next_sign (text_of p) (place_of p) ≡ found sign from behind
+  pub differs : is_mark m sign ≡ false
+  pub stays : q ≡ p
+
+-- no sign can be read there
+pub data Unread (p : Parser) : GrammarFault → Type 0 where
+  unread : {y : SignFault} → next_sign (text_of p) (place_of p) ≡ fault y → Unread p (faults.Sign y)
+
+abbrev pub Takes : Mark → Parser → Parser → Result Bool GrammarFault → Type 0
+Takes m p q (Ok true) = Over p q (mark m)
+Takes m p q (Ok false) = Passed m p q
+Takes m p q (Err e) = Unread p e
 
 -- The parts of a rule.
 pub data Part : Type 0 where

@@ -1,7 +1,7 @@
 //! The rule's form: one function for each rule of the grammar, which call each other in a cycle while the text that
 //! remains gets shorter.
 ghost use Rattle.std.specs.Prelude.{◌≤◌};
-ghost use Rattle.rules.specs.Parts.{Reads, Room, a_unit, a_link, a_conj, a_disj, a_form};
+ghost use Rattle.rules.specs.Parts.{Takes, Reads, Room, a_unit, a_link, a_conj, a_disj, a_form};
 
 use crate::parser::Parser;
 use crate::{MOST_OPEN, is_mark, prefix_of, since_of};
@@ -10,6 +10,19 @@ use lines::{Infix, Line};
 use signs::{Mark, Sign};
 
 impl<'a> Parser<'a> {
+    /// Whether this mark comes next: then it is read over, else the reader stays before the sign.
+    fn takes(&mut self, mark: Mark) -> Result<bool, GrammarFault>
+        ensures { Takes mark self.old self.new result }
+    {
+        let mut ahead = self.reader;
+        let placed = ahead.next()?;
+        if is_mark(placed.sign, mark) {
+            self.reader = ahead;
+            return Ok(true);
+        }
+        Ok(false)
+    }
+
     /// form = disj [ "->" disj ]
     ///
     /// Says the number of the form's last line, as do the others.
@@ -20,16 +33,12 @@ impl<'a> Parser<'a> {
         ensures { Reads a_form self.old depth self.new result }
     {
         let left = self.disj(depth)?;
-        let mut ahead = self.reader;
-        let placed = ahead.next()?;
-        if is_mark(placed.sign, Mark::Arrow) {
-            self.reader = ahead;
-            let side = self.table.middle(Infix::Implies, left);
-            let right = self.disj(depth)?;
-            let last = self.table.end(Infix::Implies, side, right);
-            return Ok(last);
+        if !self.takes(Mark::Arrow)? {
+            return Ok(left);
         }
-        Ok(left)
+        let side = self.table.middle(Infix::Implies, left);
+        let right = self.disj(depth)?;
+        Ok(self.table.end(Infix::Implies, side, right))
     }
 
     /// disj = conj { "|" conj }
@@ -40,17 +49,12 @@ impl<'a> Parser<'a> {
         ensures { Reads a_disj self.old depth self.new result }
     {
         let mut left = self.conj(depth)?;
-        loop {
-            let mut ahead = self.reader;
-            let placed = ahead.next()?;
-            if !is_mark(placed.sign, Mark::Or) {
-                return Ok(left);
-            }
-            self.reader = ahead;
+        while self.takes(Mark::Or)? {
             let side = self.table.middle(Infix::Or, left);
             let right = self.conj(depth)?;
             left = self.table.end(Infix::Or, side, right);
         }
+        Ok(left)
     }
 
     /// conj = link { "&" link }
@@ -61,17 +65,12 @@ impl<'a> Parser<'a> {
         ensures { Reads a_conj self.old depth self.new result }
     {
         let mut left = self.link(depth)?;
-        loop {
-            let mut ahead = self.reader;
-            let placed = ahead.next()?;
-            if !is_mark(placed.sign, Mark::And) {
-                return Ok(left);
-            }
-            self.reader = ahead;
+        while self.takes(Mark::And)? {
             let side = self.table.middle(Infix::And, left);
             let right = self.link(depth)?;
             left = self.table.end(Infix::And, side, right);
         }
+        Ok(left)
     }
 
     /// link = unit [ ("SL" or "SG") unit ]
@@ -88,8 +87,7 @@ impl<'a> Parser<'a> {
             self.reader = ahead;
             let side = self.table.middle(op, left);
             let right = self.unit(depth)?;
-            let last = self.table.end(op, side, right);
-            return Ok(last);
+            return Ok(self.table.end(op, side, right));
         }
         Ok(left)
     }
@@ -108,37 +106,27 @@ impl<'a> Parser<'a> {
             }
             let first = self.table.lead(op);
             let inner = self.unit(depth + 1)?;
-            let last = self.table.close(op, first, inner);
-            return Ok(last);
+            return Ok(self.table.close(op, first, inner));
         }
-        if is_mark(placed.sign, Mark::Open) {
-            if depth == MOST_OPEN {
-                return Err(GrammarFault::TooDeep(placed.from));
+        match placed.sign {
+            Sign::Mark(Mark::Open) => {
+                if depth == MOST_OPEN {
+                    return Err(GrammarFault::TooDeep(placed.from));
+                }
+                let inner = self.form(depth + 1)?;
+                let partner = self.reader.next()?;
+                if !is_mark(partner.sign, Mark::Close) {
+                    return Err(GrammarFault::Misfit(partner.from));
+                }
+                Ok(inner)
             }
-            let inner = self.form(depth + 1)?;
-            let partner = self.reader.next()?;
-            if is_mark(partner.sign, Mark::Close) {
-                return Ok(inner);
-            }
-            return Err(GrammarFault::Misfit(partner.from));
-        }
-        if is_mark(placed.sign, Mark::True) {
-            let line = self.table.add(Line::Yes);
-            return Ok(line);
-        }
-        if is_mark(placed.sign, Mark::False) {
-            let line = self.table.add(Line::No);
-            return Ok(line);
-        }
-        let Sign::Name(word) = placed.sign else {
-            return Err(GrammarFault::Misfit(placed.from));
-        };
-        match self.names.find(self.reader.text(), word) {
-            Some(i) => {
-                let line = self.table.add(Line::Atom(i));
-                Ok(line)
-            }
-            None => Err(GrammarFault::Undeclared(placed.from)),
+            Sign::Mark(Mark::True) => Ok(self.table.add(Line::Yes)),
+            Sign::Mark(Mark::False) => Ok(self.table.add(Line::No)),
+            Sign::Name(word) => match self.names.find(self.reader.text(), word) {
+                Some(i) => Ok(self.table.add(Line::Atom(i))),
+                None => Err(GrammarFault::Undeclared(placed.from)),
+            },
+            _ => Err(GrammarFault::Misfit(placed.from)),
         }
     }
 }

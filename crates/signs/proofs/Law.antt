@@ -106,9 +106,6 @@ module _ (text : List ℕ) (f : ℕ) (low : is_letter (get_or text f 0) ≡ fals
 drop_get_or : (text : List ℕ) (f : ℕ) → f < length text → drop f text ≡ get_or text f 0 ∷ drop (suc f) text
 drop_get_or text f h = drop-cons text f 0 h
 
-take_one : (x : ℕ) (xs : List ℕ) → take 1 (x ∷ xs) ≡ x ∷ []
-take_one x xs = refl
-
 one_byte : (text : List ℕ) (f : ℕ) → f < length text → part text f (f + 1) ≡ get_or text f 0 ∷ []
 one_byte text f h = let n : f + 1 - f ≡ 1 = omega arith in ap (λ v. take v (drop f text)) n ∙ ap (take 1) (drop_get_or text f h)
 

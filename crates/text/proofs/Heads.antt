@@ -9,7 +9,7 @@ use Rattle.signs.specs.Walk.{then_signs, signs_from}
 use Rattle.signs.proofs.Steps.{signs_step}
 use Rattle.grammar.specs.declared.fault.GrammarFault.{GrammarFault}
 use Rattle.grammar.specs.declared.fault.GrammarFault.TheVariants as faults
-use Rattle.grammar.specs.Machine.{State, begun, name_due, name_read, rule_due, in_rule, form_read, choose, name_sign, step, limit, refused, at_end, run}
+use Rattle.grammar.specs.Machine.{State, begun, name_due, name_read, rule_due, in_rule, form_read, choose, step, limit, refused, at_end, run}
 use Rattle.names.specs.Names.{span_bytes}
 use Rattle.rules.proofs.Moves.{Next, Bad}
 
@@ -59,11 +59,6 @@ module _ (t : List ℕ) (st : State) (h : Head st) where
 
   pub head_misfits : {a : ℕ} {k : Kind} {f e : ℕ} → Next t a k f e → step st k ≡ None → run st (signs_from t a) ≡ refused (faults.Misfit f)
   head_misfits {a} {k} {f} {e} n s = next_run n ∙ ap (λ o. choose o (refused (faults.Misfit f)) (λ x. choose (limit st k f) (run x (signs_from t e)) refused)) s
-
-pub not_name : (ns : List (List ℕ)) (k : Kind) → ((w : List ℕ) → k ≡ name w → ⊥) → name_sign ns k ≡ None
-not_name ns (name w) other = absurd (other w refl)
-not_name ns (mark m) other = refl
-not_name ns end other = refl
 
 -- a name's bytes are its part of the text
 pub name_bytes : {text : List ℕ} {at : ℕ} {w : List ℕ} {f e : ℕ} → Stands text at (found (name w) f e) → span_bytes text (record { from = f; to = e }) ≡ w

@@ -1,5 +1,5 @@
 -- The whole of a text: from its first byte to its end.
-use Rattle.std.proofs.Common.{◌≡◌, ℕ, ◌≤◌, Bool, true, false, cond, ltb, List, [], map, length, take, Some, None, Ok, Err, Result, sym, refl, ap, ◌∙◌, subst, arith, ltb-false}
+use Rattle.std.proofs.Common.{◌≡◌, ℕ, ◌≤◌, Bool, true, false, cond, ltb, List, [], map, length, take, Some, None, Ok, Err, Result, sym, refl, ap, ◌∙◌, subst}
 use Rattle.std.proofs.lemmas.Bool.{cond-false}
 use Rattle.lines.specs.declared.line.Line.{Line}
 use Rattle.lines.specs.Forms.{Form, declared}
@@ -17,13 +17,10 @@ use Rattle.grammar.specs.declared.fault.GrammarFault.TheVariants as faults
 use Rattle.grammar.specs.Machine.{is_mark, State, begun, name_due, rule_due, in_rule, stopped, due, form_read, no_lefts, after_form, ended, step, limit, Outcome, accepted, refused, run, outcome}
 use Rattle.names.specs.Names.{span_bytes, names_of}
 use Rattle.rules.specs.declared.parser.Parser.{Parser}
-use Rattle.rules.specs.Parts.{text_of, place_of, declared_in, signs_at, lines_in, count_in, a_form, Done, Fails}
-use Rattle.rules.proofs.Moves.{Next}
-use Rattle.text.specs.Heads.{Over, Missing, unread, other, Named, Unnamed, Fresh, Accepts, Refuses}
+use Rattle.rules.specs.Parts.{text_of, place_of, declared_in, signs_at, lines_in, count_in, Over, a_form, Done, Fails}
+use Rattle.rules.proofs.Parsing.{over_next}
+use Rattle.text.specs.Heads.{Missing, unread, other, Named, Unnamed, Fresh, Accepts, Refuses}
 use Rattle.text.proofs.Heads.{Head, head_begun, head_rule_due, head_form_read, head_bad, head_leads, head_misfits}
-
-pub over_next : {p q : Parser} {k : Kind} → (o : Over p q k) → Next (text_of p) (place_of p) k o.from (place_of q)
-over_next {p} o = record { within = p.reader.within; is = o.is }
 
 pub over_names : {p q : Parser} {k : Kind} → Over p q k → declared_in q ≡ declared_in p
 over_names {p} {q} o = ap (λ n. names_of (text_of q) n) o.names ∙ ap (λ t. names_of t p.names) o.text
@@ -41,22 +38,8 @@ not_long : (b : Bool) (x y : Outcome) → Ok tt ≡ long b → cond b x y ≡ y
 not_long true x y e = cc
 not_long false x y e = refl
 
-is_long : (b : Bool) (s : SignFault) (y : Outcome) → Err s ≡ long b → cond b (refused (faults.Sign TooLong)) y ≡ refused (faults.Sign s)
-is_long true s y e = let z : s ≡ TooLong = cc in ap (λ v. refused (faults.Sign v)) (sym z)
-is_long false s y e = cc
-
-false_long : (b : Bool) → Ok tt ≡ long b → b ≡ false
-false_long true e = cc
-false_long false e = refl
-
 pub upto_start : (p : Parser) → Fresh p → Ok tt ≡ length_answer (text_of p) → Upto p begun p
 upto_start p f e = record { comes = not_long (ltb 8192 (length (text_of p))) _ _ e ∙ ap (λ v. run begun (signs_from (text_of p) v)) (sym f.place); text = refl }
-
-pub refuses_long : (p : Parser) (y : SignFault) → Err y ≡ length_answer (text_of p) → Refuses p (faults.Sign y)
-refuses_long p y e = record { comes = is_long (ltb 8192 (length (text_of p))) y _ e }
-
-pub short_text : (t : List ℕ) → Ok tt ≡ length_answer t → length t ≤ 8192
-short_text t e = omega (arith, ltb-false, false_long (ltb 8192 (length t)) e)
 
 pub upto_over : {p q r : Parser} {st : State} {k : Kind} (next : State) → Head st → Upto p st q → (o : Over q r k) → step st k ≡ Some next → limit st k o.from ≡ None → Upto p next r
 upto_over {p} {q} {r} {st} {k} next h u o s l = record {

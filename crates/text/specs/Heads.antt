@@ -9,17 +9,9 @@ use Rattle.grammar.specs.declared.fault.GrammarFault.{GrammarFault}
 use Rattle.grammar.specs.declared.fault.GrammarFault.TheVariants as faults
 use Rattle.grammar.specs.Machine.{is_mark, name_due, rule_due, run, accepted, refused, outcome}
 use Rattle.rules.specs.declared.parser.Parser.{Parser}
-use Rattle.rules.specs.Parts.{text_of, place_of, declared_in, signs_at, lines_in, count_in}
+use Rattle.rules.specs.Parts.{text_of, place_of, declared_in, signs_at, lines_in, count_in, Over}
 
--- the sign k came next, and the parser stands behind it
-pub record Over (p q : Parser) (k : Kind) : Type 0 where
-  pub from : ℕ
-  pub is : next_sign (text_of p) (place_of p) ≡ found k from (place_of q)
-  pub text : text_of q ≡ text_of p
-  pub names : q.names ≡ p.names
-  pub table : q.table ≡ p.table
-
--- it did not: no sign can be read there, or another came
+-- the sign that has to come next did not: no sign can be read there, or another came
 pub data Missing (p : Parser) (k : Kind → Type 0) : GrammarFault → Type 0 where
   unread : {y : SignFault} → next_sign (text_of p) (place_of p) ≡ fault y → Missing p k (faults.Sign y)
   other : {j : Kind} {f e : ℕ} → next_sign (text_of p) (place_of p) ≡ found j f e → k j → Missing p k (faults.Misfit f)

@@ -19,14 +19,14 @@ decreases-link l = 8 * (length (text_of l.self.now) - place_of l.self.now) + 1
 abbrev pub decreases-unit : goal.decreases-unit
 decreases-unit l = 8 * (length (text_of l.self.now) - place_of l.self.now)
 
-abbrev pub invariant-conj-loop-placed : goal.invariant-conj-loop-placed
-invariant-conj-loop-placed l = Along a_conj l.initial.self l.depth l.initial.left l.self l.left
+abbrev pub invariant-conj-loop-self : goal.invariant-conj-loop-self
+invariant-conj-loop-self l = Along a_conj l.initial.self l.depth l.initial.left l.self l.left
 
-abbrev pub decreases-conj-loop-placed : goal.decreases-conj-loop-placed
-decreases-conj-loop-placed l = length (text_of l.self) - place_of l.self
+abbrev pub decreases-conj-loop-self : goal.decreases-conj-loop-self
+decreases-conj-loop-self l = length (text_of l.self) - place_of l.self
 
-abbrev pub invariant-disj-loop-placed : goal.invariant-disj-loop-placed
-invariant-disj-loop-placed l = Along a_disj l.initial.self l.depth l.initial.left l.self l.left
+abbrev pub invariant-disj-loop-self : goal.invariant-disj-loop-self
+invariant-disj-loop-self l = Along a_disj l.initial.self l.depth l.initial.left l.self l.left
 
-abbrev pub decreases-disj-loop-placed : goal.decreases-disj-loop-placed
-decreases-disj-loop-placed l = length (text_of l.self) - place_of l.self
+abbrev pub decreases-disj-loop-self : goal.decreases-disj-loop-self
+decreases-disj-loop-self l = length (text_of l.self) - place_of l.self
