@@ -1,4 +1,5 @@
 //! Cases of books: each call alone, with the store's memory after it, and then the whole list at once.
+use crate::printer::Printer;
 use crate::steps::{Answered, Step, parse_steps};
 use crate::tables::{InMemory, print_table};
 use crate::words::Words;
@@ -9,7 +10,7 @@ use meaning::Call;
 use row_table::RowTable;
 use scales::{Open, Plain, Scale};
 use std::alloc::Global;
-use std::io::{BufWriter, Write};
+use std::io::Write;
 use stores::Store;
 use stretch_store::StretchTable;
 
@@ -28,80 +29,75 @@ fn table_for<T: InMemory>(heap: Global, policy: &Policy, size: usize) -> anyhow:
 
 /// Performs the calls one by one, and prints the memory after each.
 fn run_steps<W: Write + Drop, K: Scale + Drop, T: InMemory + Drop>(
-    out: &mut BufWriter<W>,
-    heap: Global,
+    to: &mut Printer<W>,
     mut book: Book<K, T>,
     steps: &[Step],
 ) -> anyhow::Result<()> {
     for step in steps {
-        write!(out, "{}", Answered(book.answer(step.call())))?;
-        print_table(out, heap, book.store())?;
+        write!(to.out, "{}", Answered(book.answer(step.call())))?;
+        print_table(to, book.store())?;
     }
     Ok(())
 }
 
 /// Performs the calls as one list on another table, and prints all answers and the memory at the end.
 fn run_list<W: Write + Drop, K: Scale + Drop, T: InMemory + Drop>(
-    out: &mut BufWriter<W>,
-    heap: Global,
+    to: &mut Printer<W>,
     policy: Policy,
     scale: K,
     table: T,
     calls: &[Call<'_>],
 ) -> anyhow::Result<()> {
-    let Ok(performed) = perform(heap, policy, scale, table, calls) else {
+    let Ok(performed) = perform(to.heap, policy, scale, table, calls) else {
         return Err(anyhow!("no book"));
     };
     for answer in performed.answers.as_slice() {
-        write!(out, "{}, ", Answered(*answer))?;
+        write!(to.out, "{}, ", Answered(*answer))?;
     }
-    print_table(out, heap, &performed.store)
+    print_table(to, &performed.store)
 }
 
 /// Opens a book and performs the calls, one by one and as a list.
 fn run_book<W: Write + Drop, K: Scale + Copy, T: InMemory + Drop>(
-    out: &mut BufWriter<W>,
-    heap: Global,
+    to: &mut Printer<W>,
     policy: Policy,
     scale: K,
     size: usize,
     line: &str,
 ) -> anyhow::Result<()> {
-    let steps = parse_steps(heap, line)?;
-    let table = table_for::<T>(heap, &policy, size)?;
-    let Ok(book) = Book::open(heap, policy, scale, table) else {
+    let steps = parse_steps(to.heap, line)?;
+    let table = table_for::<T>(to.heap, &policy, size)?;
+    let Ok(book) = Book::open(to.heap, policy, scale, table) else {
         return Err(anyhow!("no book"));
     };
-    run_steps(out, heap, book, steps.as_slice())?;
+    run_steps(to, book, steps.as_slice())?;
     let calls = steps
         .iter()
         .map(|step| step.call())
-        .collect::<Vec<_>>(heap)?;
-    let table = table_for::<T>(heap, &policy, size)?;
-    run_list(out, heap, policy, scale, table, calls.as_slice())
+        .collect::<Vec<_>>(to.heap)?;
+    let table = table_for::<T>(to.heap, &policy, size)?;
+    run_list(to, policy, scale, table, calls.as_slice())
 }
 
 /// Runs a case: the scale, the kind of table, the size of its memory and the policy's text, then the calls.
 pub(crate) fn run<W: Write + Drop>(
-    out: &mut BufWriter<W>,
-    heap: Global,
+    to: &mut Printer<W>,
     mut words: Words<'_>,
     line: &str,
 ) -> anyhow::Result<()> {
     let scale = words.next();
     let kind = words.next();
     let size = words.number()?;
-    let text = words.bytes(heap)?;
+    let text = words.bytes(to.heap)?;
     let policy = policy_of(text.as_slice())?;
+    // each pair is a type of its own, so no value can stand for the choice
     match (scale, kind) {
-        ("plain", "row") => run_book::<W, Plain, RowTable>(out, heap, policy, Plain, size, line),
-        ("open", "row") => run_book::<W, Open, RowTable>(out, heap, policy, Open, size, line),
+        ("plain", "row") => run_book::<W, Plain, RowTable>(to, policy, Plain, size, line),
+        ("open", "row") => run_book::<W, Open, RowTable>(to, policy, Open, size, line),
         ("plain", "stretch") => {
-            run_book::<W, Plain, StretchTable>(out, heap, policy, Plain, size, line)
+            run_book::<W, Plain, StretchTable>(to, policy, Plain, size, line)
         }
-        ("open", "stretch") => {
-            run_book::<W, Open, StretchTable>(out, heap, policy, Open, size, line)
-        }
+        ("open", "stretch") => { run_book::<W, Open, StretchTable>(to, policy, Open, size, line) }
         _ => Err(anyhow!("no book")),
     }
 }

@@ -1,19 +1,18 @@
 //! Cases of the program: an input, and the answers to it.
+use crate::printer::Printer;
 use crate::words::Words;
 use console::{Room, respond};
-use std::alloc::Global;
-use std::io::{BufWriter, Write};
+use std::io::Write;
 
 /// Runs a case: the input in hexadecimal.
 pub(crate) fn run<W: Write + Drop>(
-    out: &mut BufWriter<W>,
-    heap: Global,
+    to: &mut Printer<W>,
     mut words: Words<'_>,
 ) -> anyhow::Result<()> {
-    let input = words.bytes(heap)?;
-    let room = Room::new(heap)?;
+    let input = words.bytes(to.heap)?;
+    let room = Room::new(to.heap)?;
     for answer in respond(room, input.as_slice()) {
-        writeln!(out, "{answer}")?;
+        writeln!(to.out, "{answer}")?;
     }
     Ok(())
 }

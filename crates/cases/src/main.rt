@@ -12,12 +12,13 @@
 #![tactic(auto)]
 
 use anyhow::anyhow;
-use std::alloc::Global;
+use printer::Printer;
 use std::io::{BufRead, BufReader, BufWriter, Read, Write};
 use words::Words;
 
 mod books;
 mod inputs;
+mod printer;
 mod steps;
 mod tables;
 mod texts;
@@ -27,26 +28,25 @@ mod words;
 const READ: u64 = 16_777_216;
 
 /// Runs one case.
-fn run_case<W: Write + Drop>(
-    out: &mut BufWriter<W>,
-    heap: Global,
-    line: &str,
-) -> anyhow::Result<()> {
+fn run_case<W: Write + Drop>(to: &mut Printer<W>, line: &str) -> anyhow::Result<()> {
     let mut words = Words::new(line.split(';').next().unwrap_or(""));
     match words.next() {
-        "text" => texts::run(out, heap, words),
-        "table" => tables::run(out, heap, words, line),
-        "book" => books::run(out, heap, words, line),
-        "input" => inputs::run(out, heap, words),
+        "text" => texts::run(to, words),
+        "table" => tables::run(to, words, line),
+        "book" => books::run(to, words, line),
+        "input" => inputs::run(to, words),
         _ => Err(anyhow!("no case")),
     }
 }
 
 fn main(rt: HostRuntime) -> anyhow::Result<()> {
-    let mut out = BufWriter::new(rt.alloc(), rt.stdout())?;
+    let mut to = Printer {
+        out: BufWriter::new(rt.alloc(), rt.stdout())?,
+        heap: rt.alloc(),
+    };
     for line in BufReader::new(rt.alloc(), rt.stdin().take(READ))?.lines(rt.alloc()) {
-        run_case(&mut out, rt.alloc(), line?.as_str())?;
+        run_case(&mut to, line?.as_str())?;
     }
-    out.flush()?;
+    to.out.flush()?;
     Ok(())
 }

@@ -1,11 +1,11 @@
 //! Cases of row stores.
+use crate::printer::Printer;
 use crate::words::Words;
 use anyhow::anyhow;
 use refusals::Refusal;
 use row_table::RowTable;
-use std::alloc::Global;
 use std::fmt;
-use std::io::{BufWriter, Write};
+use std::io::Write;
 use stores::{Store, StoreFault};
 use stretch_store::StretchTable;
 
@@ -38,14 +38,13 @@ impl InMemory for StretchTable {
 
 /// Prints low, high and every byte of the memory.
 pub(crate) fn print_table<W: Write + Drop, T: InMemory>(
-    out: &mut BufWriter<W>,
-    heap: Global,
+    to: &mut Printer<W>,
     table: &T,
 ) -> anyhow::Result<()> {
     let low = table.low();
     let high = table.high();
-    let memory = hex::encode(heap, table.bytes())?;
-    writeln!(out, " low {low} high {high} memory {memory}")?;
+    let memory = hex::encode(to.heap, table.bytes())?;
+    writeln!(to.out, " low {low} high {high} memory {memory}")?;
     Ok(())
 }
 
@@ -64,24 +63,22 @@ impl fmt::Display for Done {
 
 /// Reads a run into a room of `len` bytes, and prints the record.
 fn print_read<W: Write + Drop, T: InMemory>(
-    out: &mut BufWriter<W>,
-    heap: Global,
+    to: &mut Printer<W>,
     table: &T,
     run: u32,
     len: usize,
 ) -> anyhow::Result<()> {
-    let mut room = vec![in heap; 170; len]?;
+    let mut room = vec![in to.heap; 170; len]?;
     match table.read(run, &mut room) {
-        Ok(()) => write!(out, "{}", hex::encode(heap, room.as_slice())?)?,
-        Err(fault) => write!(out, "{}", Refusal::from(fault))?,
+        Ok(()) => write!(to.out, "{}", hex::encode(to.heap, room.as_slice())?)?,
+        Err(fault) => write!(to.out, "{}", Refusal::from(fault))?,
     }
     Ok(())
 }
 
 /// Performs one call, and prints its answer.
 fn run_call<W: Write + Drop, T: InMemory>(
-    out: &mut BufWriter<W>,
-    heap: Global,
+    to: &mut Printer<W>,
     table: &mut T,
     call: &str,
 ) -> anyhow::Result<()> {
@@ -90,46 +87,44 @@ fn run_call<W: Write + Drop, T: InMemory>(
         "read" => {
             let run = words.number()?;
             let len = words.number()?;
-            return print_read(out, heap, table, run, len);
+            return print_read(to, table, run, len);
         }
-        "write" => table.write(words.number()?, words.bytes(heap)?.as_slice()),
-        "append" => table.append(words.bytes(heap)?.as_slice()),
+        "write" => table.write(words.number()?, words.bytes(to.heap)?.as_slice()),
+        "append" => table.append(words.bytes(to.heap)?.as_slice()),
         "forget" => table.forget(words.number()?),
         _ => return Err(anyhow!("no call")),
     };
-    write!(out, "{}", Done(done))?;
+    write!(to.out, "{}", Done(done))?;
     Ok(())
 }
 
 /// Makes a table in memory that is not zero, performs the calls, and prints the memory after each.
 fn run_calls<W: Write + Drop, T: InMemory + Drop>(
-    out: &mut BufWriter<W>,
-    heap: Global,
+    to: &mut Printer<W>,
     width: usize,
     size: usize,
     line: &str,
 ) -> anyhow::Result<()> {
-    let mut table = match T::make(vec![in heap; 255; size]?, width) {
+    let mut table = match T::make(vec![in to.heap; 255; size]?, width) {
         Ok(table) => table,
         Err(fault) => {
-            writeln!(out, "{}", Refusal::from(fault))?;
+            writeln!(to.out, "{}", Refusal::from(fault))?;
             return Ok(());
         }
     };
     let limit = table.limit();
-    write!(out, "limit {limit}")?;
-    print_table(out, heap, &table)?;
+    write!(to.out, "limit {limit}")?;
+    print_table(to, &table)?;
     for call in line.split(';').skip(1) {
-        run_call(out, heap, &mut table, call)?;
-        print_table(out, heap, &table)?;
+        run_call(to, &mut table, call)?;
+        print_table(to, &table)?;
     }
     Ok(())
 }
 
 /// Runs a case: the kind of table, the width and the size of its memory, then the calls.
 pub(crate) fn run<W: Write + Drop>(
-    out: &mut BufWriter<W>,
-    heap: Global,
+    to: &mut Printer<W>,
     mut words: Words<'_>,
     line: &str,
 ) -> anyhow::Result<()> {
@@ -137,8 +132,8 @@ pub(crate) fn run<W: Write + Drop>(
     let width = words.number()?;
     let size = words.number()?;
     match kind {
-        "row" => run_calls::<W, RowTable>(out, heap, width, size, line),
-        "stretch" => run_calls::<W, StretchTable>(out, heap, width, size, line),
+        "row" => run_calls::<W, RowTable>(to, width, size, line),
+        "stretch" => run_calls::<W, StretchTable>(to, width, size, line),
         _ => Err(anyhow!("no table")),
     }
 }

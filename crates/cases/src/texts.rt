@@ -1,16 +1,15 @@
 //! Cases of policy texts.
+use crate::printer::Printer;
 use crate::words::Words;
 use readings::AsRead;
-use std::alloc::Global;
-use std::io::{BufWriter, Write};
+use std::io::Write;
 
 /// Runs a case: the text in hexadecimal.
 pub(crate) fn run<W: Write + Drop>(
-    out: &mut BufWriter<W>,
-    heap: Global,
+    to: &mut Printer<W>,
     mut words: Words<'_>,
 ) -> anyhow::Result<()> {
-    let text = words.bytes(heap)?;
-    writeln!(out, "{}", AsRead(text.as_slice()))?;
+    let text = words.bytes(to.heap)?;
+    writeln!(to.out, "{}", AsRead(text.as_slice()))?;
     Ok(())
 }
