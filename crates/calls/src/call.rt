@@ -9,6 +9,7 @@ use crate::input::cut_at;
 pub const MOST_CODES: usize = 64;
 
 /// Room for the codes of a call.
+// An array: reading a call needs no heap.
 pub type CodeRoom = [u8; MOST_CODES];
 
 /// The most digits of a run number.

@@ -30,6 +30,7 @@ const READ: u64 = 16_777_216;
 /// Runs one case.
 fn run_case<W: Write + Drop>(to: &mut Printer<W>, line: &str) -> anyhow::Result<()> {
     let mut words = Words::new(line.split(';').next().unwrap_or(""));
+    // here and below: a word of the input says what is run, and a table of functions would name the same words
     match words.next() {
         "text" => texts::run(to, words),
         "table" => tables::run(to, words, line),

@@ -46,6 +46,7 @@ impl fmt::Display for Atoms<'_> {
 
     fn fmt<W: fmt::Write>(&self, f: &mut fmt::Formatter<W>) -> fmt::Result {
         let mut reader = Reader::new(self.text);
+        // a bound, since the reader never ends
         for _ in 0..self.text.len() {
             let Ok(placed) = reader.next() else {
                 break;

@@ -34,7 +34,7 @@ impl Depth {
     }
 
     /// One deeper, behind the sign at `place`. The 33rd is refused.
-    fn deeper(self, place: usize) -> Result<Depth, GrammarFault>
+    pub fn deeper(self, place: usize) -> Result<Depth, GrammarFault>
         ensures { Deeper self place result }
     {
         if self.count == MOST_OPEN {
@@ -54,6 +54,7 @@ pub fn is_mark(sign: Sign<'_>, mark: Mark) -> bool
 }
 
 /// The prefix that the sign is.
+// No `TryFrom`: neither type is one of this crate.
 fn prefix_of(sign: Sign<'_>) -> Option<Prefix>
     ensures { result ≡ prefix_of (kind_of sign.entry) }
 {

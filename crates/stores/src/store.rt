@@ -23,6 +23,7 @@ pub trait Store {
         ensures value { result ≡ (meaning self.now).limit };
 
     /// The oldest run held; 1 where there is none.
+    // Numbers, and no `Option`: the rules of a store have 1 and 0 for no run.
     fn low(&self) -> u32
         ensures value { result ≡ (meaning self.now).low };
 
