@@ -34,7 +34,7 @@ impl Depth {
     }
 
     /// One deeper, behind the sign at `place`. The 33rd is refused.
-    fn deeper(self, place: usize) -> Result<Depth, GrammarFault>
+    pub fn deeper(self, place: usize) -> Result<Depth, GrammarFault>
         ensures { Deeper self place result }
     {
         if self.count == MOST_OPEN {
