@@ -1,15 +1,14 @@
-use Rattle.std.proofs.Common.{◌≡◌, ◌+◌, ◌*◌, ◌<◌, ◌≤◌, cond, length, get_or, Some, None, Ok, Err, sym, ap, ◌∙◌, subst, arith}
-use Rattle.std.proofs.lemmas.Result.{err_from_is_err_and}
+use Rattle.std.proofs.Common.{◌≡◌, ◌+◌, ◌*◌, ◌<◌, ◌≤◌, cond, length, get_or, Some, None, Ok, sym, ap, ◌∙◌, subst, arith}
 use Rattle.std.proofs.lemmas.Bool.{lt-ltb, le-ltb}
 use Rattle.stores.specs.Meaning.{high_of}
 use Rattle.logic.specs.History.{high}
 use Rattle.meaning.specs.declared.fault.BookFault.TheVariants.{NoLine}
 use Rattle.meaning.specs.Records.{record_of, truths_of}
 use Rattle.meaning.specs.Kept.{low}
-use Rattle.meaning.specs.Refusals.{run_refusal}
+use Rattle.meaning.specs.Refusals.{run_refusal, truth_refusal}
 use Rattle.meaning.specs.Calls.{unless, line_truth}
 use Rattle.meaning.proofs.Owns.{kept_truths, line_is}
-use Rattle.meaning.proofs.Refusals.{none_from_unless, some_from_unless, run_by, run_there, read_record, truth_by_run, truth_below, truth_held}
+use Rattle.meaning.proofs.Refusals.{none_from_unless, some_from_unless, passed_on, run_by, run_there, read_record, truth_by_run, truth_held}
 use Rattle.meaning.proofs.Walks.{lows}
 use Rattle.monitor.proofs.asking.truth.Goals as goal
 
@@ -17,24 +16,12 @@ pub returns-in_err-check_run : goal.returns-in_err-check_run
 returns-in_err-check_run g c =
     let m = g.S.Store.meaning c.args.store.now in
     let run = c.args.run in
-    let p = err_from_is_err_and c.from_residual.result c.from_residual.ensures.1 in
     let f = c.in_err-check_run.field-0.0 in
     let bad : run_refusal (high_of m) run ≡ Some f = some_from_unless _ tt f (c.in_err-check_run.ensures.value ∙ ap (λ n. unless (run_refusal n run) tt) c.high.ensures.value) in
     record {
       value = λ K ls h rep long.
-          p.1 ∙ ap Err p.2
-          ∙ sym (ap (λ o. unless o (line_truth K ls h run c.args.line)) (truth_by_run K ls c.args.atoms h m rep (g.met.S.Store.sound c.args.store.now) run c.args.line f bad));
-    }
-
-pub returns-then-run-low : goal.returns-then-run-low
-returns-then-run-low g c =
-    let m = g.S.Store.meaning c.args.store.now in
-    let run = c.args.run in
-    let there : run_refusal (high_of m) run ≡ None = none_from_unless _ tt tt (c.in_ok-check_run.ensures.value ∙ ap (λ n. unless (run_refusal n run) tt) c.high.ensures.value) in
-    let lt : run < m.low = subst (λ n. run < n) c.low.ensures.value c.if-run-low.true in
-    record {
-      value = λ K ls h rep long.
-          sym (ap (λ o. unless o (line_truth K ls h run c.args.line)) (truth_below K ls c.args.atoms h m rep (g.met.S.Store.sound c.args.store.now) run there c.args.line lt));
+          passed_on c.from_residual.result (truth_refusal ls h run c.args.line) (line_truth K ls h run c.args.line) f c.from_residual.ensures.1
+          (truth_by_run K ls c.args.atoms h m rep (g.met.S.Store.sound c.args.store.now) run c.args.line f bad);
     }
 
 pub returns-then-line-lines : goal.returns-then-line-lines

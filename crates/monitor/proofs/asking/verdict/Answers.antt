@@ -1,5 +1,5 @@
 use Rattle.std.proofs.Common.{◌≡◌, ◌+◌, ◌-◌, ◌*◌, ◌≤◌, cond, length, get_or, Some, None, Ok, sym, ap, ◌∙◌, subst, arith}
-use Rattle.std.proofs.lemmas.Bool.{eq-eqb, ne_eqb}
+use Rattle.std.proofs.lemmas.Bool.{ne_eqb}
 use Rattle.logic.specs.History.{high}
 use Rattle.logic.specs.Rows.{verdict}
 use Rattle.meaning.specs.declared.fault.BookFault.TheVariants.{NoRuns}
@@ -9,15 +9,6 @@ use Rattle.meaning.specs.Walking.{Reads}
 use Rattle.meaning.proofs.Verdicts.{verdict_is}
 use Rattle.meaning.proofs.Walks.{highs}
 use Rattle.monitor.proofs.asking.verdict.Goals as goal
-
-pub returns-then-newest-eq0 : goal.returns-then-newest-eq0
-returns-then-newest-eq0 g c = record {
-  value = λ K ls h rep long.
-      let m = g.S.Store.meaning c.args.store.now in
-      let t = highs K ls c.args.atoms m.limit h m (record_of K ls h) rep (g.met.S.Store.sound c.args.store.now) in
-      let none : high h ≡ 0 = sym (c.high-newest.ensures.value ∙ t) ∙ c.if-newest-eq0.true in
-      sym (ap (λ b. unless (cond b (Some NoRuns) None) (verdict K ls h)) (eq-eqb (high h) 0 none));
-}
 
 pub returns : goal.returns
 returns g c = record {

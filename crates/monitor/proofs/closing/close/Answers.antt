@@ -1,23 +1,21 @@
-use Rattle.std.proofs.Common.{◌-◌, ◌∷◌, length, set, Ok, Err, sym, refl, ap, ◌∙◌, arith}
-use Rattle.std.proofs.lemmas.Result.{err_from_is_err_and}
+use Rattle.std.proofs.Common.{◌-◌, ◌∷◌, length, set, Ok, sym, refl, ap, ◌∙◌, arith}
 use Rattle.logic.specs.History.{close}
 use Rattle.meaning.specs.Kept.{low, meaning}
 use Rattle.meaning.specs.Refusals.{open_refusal}
 use Rattle.meaning.specs.Calls.{unless, added}
 use Rattle.meaning.proofs.Lows.{low_open}
 use Rattle.meaning.proofs.Closes.{closes}
-use Rattle.meaning.proofs.Refusals.{none_from_unless, some_from_unless, open_since}
+use Rattle.meaning.proofs.Refusals.{none_from_unless, some_from_unless, passed_on, open_since}
 use Rattle.monitor.proofs.closing.close.Goals as goal
 
 pub returns-in_err-read_open : goal.returns-in_err-read_open
 returns-in_err-read_open g c =
     let m = g.S.Store.meaning c.args.store.now in
     let run = c.args.run in
-    let p = err_from_is_err_and c.from_residual.result c.from_residual.ensures.1 in
     let f = c.in_err-read_open.field-0.0 in
     record {
       value = λ K ls atoms h rep long.
-          p.1 ∙ ap Err p.2 ∙ sym (ap (λ o. unless o (low (close run ∷ h) - low h)) (some_from_unless (open_refusal h run) tt f (c.in_err-read_open.ensures.value K ls atoms h rep long)));
+          passed_on c.from_residual.result (open_refusal h run) (low (close run ∷ h) - low h) f c.from_residual.ensures.1 (some_from_unless (open_refusal h run) tt f (c.in_err-read_open.ensures.value K ls atoms h rep long));
       after = λ K ls atoms h rep long.
           rep ∙ sym (ap (λ o. meaning K ls atoms m.limit (added o (close run) h)) (some_from_unless (open_refusal h run) tt f (c.in_err-read_open.ensures.value K ls atoms h rep long)));
       same = refl;

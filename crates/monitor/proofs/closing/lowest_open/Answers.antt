@@ -2,7 +2,7 @@ use Rattle.std.proofs.Common.{◌+◌, ◌-◌, ◌<◌, ◌≤◌, sym, ap, ◌
 use Rattle.stores.specs.Meaning.{high_of, record_at}
 use Rattle.meaning.specs.Kept.{lowest}
 use Rattle.meaning.specs.Walking.{is_open}
-use Rattle.meaning.proofs.Closes.{search_stops, search_goes, search_ends}
+use Rattle.meaning.proofs.Closes.{search_stops, search_goes}
 use Rattle.monitor.proofs.closing.lowest_open.Goals as goal
 
 pub loop-run-preserved : goal.loop-run-preserved
@@ -32,14 +32,4 @@ returns-then-is_open g c =
           let was = c.loop-run.auto.rec ∙ long in
           sym (search_stops m c.loop-run.run (c.high-run-end.result + 1) c.fetch.new.rec lt (c.fetch.ensures (record { long = was; above = lo; inside = inside })) (sym c.is_open.ensures.value ∙ c.if-is_open.true))
           ∙ inv.1 was ∙ ap (λ n. lowest (λ j. is_open (record_at m j)) m.low (n + 1 - m.low)) hi;
-    }
-
-pub returns : goal.returns
-returns g c =
-    let m = g.S.Store.meaning c.args.store.now in
-    let inv = c.loop-run.invariant in
-    record {
-      value = λ long.
-          sym (search_ends (λ j. is_open (record_at m j)) c.loop-run.run (c.high-run-end.result + 1) c.loop-run-test.false)
-          ∙ inv.1 (c.loop-run.auto.rec ∙ long) ∙ ap (λ n. lowest (λ j. is_open (record_at m j)) m.low (n + 1 - m.low)) c.high-run-end.ensures.value;
     }

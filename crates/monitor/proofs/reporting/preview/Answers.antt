@@ -1,28 +1,14 @@
-use Rattle.std.proofs.Common.{◌≡◌, ◌-◌, ◌≤◌, ◌∷◌, length, get_or, Ok, Err, sym, ap, ◌∙◌, arith}
-use Rattle.std.proofs.lemmas.Result.{err_from_is_err_and}
+use Rattle.std.proofs.Common.{◌≡◌, ◌-◌, ◌≤◌, ◌∷◌, length, get_or, Ok, sym, ap, ◌∙◌, arith}
 use Rattle.logic.specs.History.{report, high}
 use Rattle.logic.specs.Rows.{verdict}
 use Rattle.meaning.specs.Records.{record_of, truths_of}
 use Rattle.meaning.specs.Refusals.{report_refusal}
 use Rattle.meaning.specs.Calls.{unless}
 use Rattle.meaning.specs.Walking.{Looking, Looked, Newest}
-use Rattle.meaning.proofs.Refusals.{none_from_unless, some_from_unless, report_since}
+use Rattle.meaning.proofs.Refusals.{none_from_unless, report_since}
 use Rattle.meaning.proofs.Verdicts.{verdict_after, newest_looked}
 use Rattle.monitor.proofs.Desks.{by_rules, wide_by}
 use Rattle.monitor.proofs.reporting.preview.Goals as goal
-
-pub returns-in_err-renewed_record : goal.returns-in_err-renewed_record
-returns-in_err-renewed_record g c = record {
-  value = λ h rep.
-      let S = g.K.Scale.algebra in
-      let d = c.args.rules in
-      let run = c.args.run in
-      let q = c.args.codes.now in
-      let p = err_from_is_err_and c.from_residual.result c.from_residual.ensures.1 in
-      p.1 ∙ ap Err p.2
-      ∙ sym (ap (λ o. unless o (verdict S d.table.now (report run q ∷ h)))
-      (some_from_unless (report_refusal S d.atoms h run q) tt c.in_err-renewed_record.field-0.0 (c.in_err-renewed_record.ensures.value h rep)));
-}
 
 pub returns : goal.returns
 returns g c = record {

@@ -1,48 +1,18 @@
-use Rattle.std.proofs.Common.{◌≡◌, ◌+◌, ◌-◌, ◌≤◌, ◌∷◌, length, get_or, IfOk, Ok, Err, sym, ap, ◌∙◌, subst, arith}
-use Rattle.std.proofs.lemmas.Result.{err_from_is_err_and}
+use Rattle.std.proofs.Common.{◌≡◌, ◌+◌, ◌-◌, ◌≤◌, ◌∷◌, length, get_or, Ok, sym, ap, ◌∙◌, subst, arith}
 use Rattle.logic.specs.History.{History, report, high}
 use Rattle.logic.specs.Rows.{reach, verdict}
 use Rattle.meaning.specs.Records.{record_of, truths_of}
 use Rattle.meaning.specs.Kept.{Represents, meaning}
-use Rattle.meaning.specs.Reaching.{Reach, StoreReach}
+use Rattle.meaning.specs.Reaching.{Reach}
 use Rattle.meaning.specs.Refusals.{report_refusal}
 use Rattle.meaning.specs.Calls.{unless, added}
 use Rattle.meaning.specs.Walking.{Begun, Done, Newest}
 use Rattle.meaning.proofs.Owns.{begun}
-use Rattle.meaning.proofs.Refusals.{none_from_unless, some_from_unless, report_since}
+use Rattle.meaning.proofs.Refusals.{none_from_unless, report_since}
 use Rattle.meaning.proofs.Reports.{reports_reach, store_reach}
 use Rattle.meaning.proofs.Verdicts.{verdict_after, newest_done}
 use Rattle.monitor.proofs.Desks.{by_rules, wide_by}
 use Rattle.monitor.proofs.reporting.report.Goals as goal
-
-pub returns-in_err-renewed_record-clause-value : goal.returns-in_err-renewed_record-clause-value
-returns-in_err-renewed_record-clause-value g c = λ h rep.
-    let S = g.K.Scale.algebra in
-    let d = c.args.rules in
-    let ls = d.table.now in
-    let run = c.args.run in
-    let q = c.args.codes.now in
-    let p = err_from_is_err_and c.from_residual.result c.from_residual.ensures.1 in
-    p.1 ∙ ap Err p.2
-    ∙ sym (ap (λ o. unless o (reach S ls run q h, verdict S ls (report run q ∷ h)))
-    (some_from_unless (report_refusal S d.atoms h run q) tt c.in_err-renewed_record.field-0.0 (c.in_err-renewed_record.ensures.value h rep)))
-
-pub returns-in_err-renewed_record-clause-after : goal.returns-in_err-renewed_record-clause-after
-returns-in_err-renewed_record-clause-after g c = λ h rep.
-    let S = g.K.Scale.algebra in
-    let d = c.args.rules in
-    let run = c.args.run in
-    let q = c.args.codes.now in
-    rep
-    ∙ sym (ap (λ o. meaning S d.table.now d.atoms (g.S.Store.meaning c.args.store.now).limit (added o (report run q) h))
-    (some_from_unless (report_refusal S d.atoms h run q) tt c.in_err-renewed_record.field-0.0 (c.in_err-renewed_record.ensures.value h rep)))
-
-pub returns-in_err-renewed_record-clause-reach : goal.returns-in_err-renewed_record-clause-reach
-returns-in_err-renewed_record-clause-reach g c = λ h rep.
-    let m = g.S.Store.meaning c.args.store.now in
-    let run = c.args.run in
-    let p = err_from_is_err_and c.from_residual.result c.from_residual.ensures.1 in
-    subst (λ r. IfOk r (λ x. Reach g.K.Scale.algebra c.args.rules.table.now h run c.args.codes.now x.0 × StoreReach m m run x.0)) (sym p.1) tt
 
 pub returns : goal.returns
 returns g c =

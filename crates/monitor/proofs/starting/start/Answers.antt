@@ -1,42 +1,17 @@
-use Rattle.std.proofs.Common.{◌≡◌, ◌+◌, length, Some, None, Ok, Err, sym, ap, ◌∙◌}
-use Rattle.std.proofs.lemmas.Result.{err_from_is_err_and}
+use Rattle.std.proofs.Common.{◌≡◌, ◌+◌, length, Some, None, Ok, sym, ap, ◌∙◌}
 use Rattle.stores.specs.Meaning.{Meaning, appended}
 use Rattle.stores.specs.Refusals.{append_fault}
 use Rattle.logic.specs.History.{start, high}
 use Rattle.meaning.specs.declared.fault.BookFault.TheVariants.{Store}
 use Rattle.meaning.specs.Records.{record_of}
 use Rattle.meaning.specs.Kept.{meaning}
-use Rattle.meaning.specs.Refusals.{codes_refusal}
+use Rattle.meaning.specs.Refusals.{codes_refusal, start_refusal}
 use Rattle.meaning.specs.Calls.{unless, added}
-use Rattle.meaning.proofs.Refusals.{none_from_unless, some_from_unless, none_from_answer, some_from_answer, long_since, turned, room_is, start_by_codes, start_by_room}
+use Rattle.meaning.proofs.Refusals.{none_from_unless, passed_on, none_from_answer, some_from_answer, turned, room_is, start_by_room}
 use Rattle.meaning.proofs.Starts.{meaning_start}
 use Rattle.meaning.proofs.Walks.{highs}
 use Rattle.monitor.proofs.Desks.{wide_by}
 use Rattle.monitor.proofs.starting.start.Goals as goal
-
-pub fresh_record-requires : goal.fresh_record-requires
-fresh_record-requires g c = long_since g.K.Scale.algebra c.args.rules.atoms c.args.codes.now (none_from_unless _ tt tt c.in_ok-check_codes.ensures.value)
-
-pub returns-in_err-check_codes-clause-value : goal.returns-in_err-check_codes-clause-value
-returns-in_err-check_codes-clause-value g c = λ h rep.
-    let S = g.K.Scale.algebra in
-    let a = c.args.rules.atoms in
-    let q = c.args.codes.now in
-    let p = err_from_is_err_and c.from_residual.result c.from_residual.ensures.1 in
-    let f = c.in_err-check_codes.field-0.0 in
-    p.1 ∙ ap Err p.2
-    ∙ sym (ap (λ o. unless o (high h + 1)) (start_by_codes S a (g.S.Store.meaning c.args.store.now).limit h q f (some_from_unless (codes_refusal S a q) tt f c.in_err-check_codes.ensures.value)))
-
-pub returns-in_err-check_codes-clause-after : goal.returns-in_err-check_codes-clause-after
-returns-in_err-check_codes-clause-after g c = λ h rep.
-    let S = g.K.Scale.algebra in
-    let d = c.args.rules in
-    let q = c.args.codes.now in
-    let m = g.S.Store.meaning c.args.store.now in
-    let f = c.in_err-check_codes.field-0.0 in
-    rep
-    ∙ sym (ap (λ o. meaning S d.table.now d.atoms m.limit (added o (start q) h))
-    (start_by_codes S d.atoms m.limit h q f (some_from_unless (codes_refusal S d.atoms q) tt f c.in_err-check_codes.ensures.value)))
 
 pub returns-in_err-append : goal.returns-in_err-append
 returns-in_err-append g c =
@@ -47,7 +22,7 @@ returns-in_err-append g c =
     let q = c.args.codes.now in
     let m = g.S.Store.meaning c.args.store.now in
     let sound = g.met.S.Store.sound c.args.store.now in
-    let p = err_from_is_err_and c.from_residual-in_err-append.result c.from_residual-in_err-append.ensures.1 in
+    let r = c.from_residual-in_err-append in
     let f = c.in_err-append.field-0.0 in
     let good = none_from_unless (codes_refusal S a q) tt tt c.in_ok-check_codes.ensures.value in
     let b = c.in_err-append.ensures in
@@ -56,7 +31,8 @@ returns-in_err-append g c =
     let long = wide_by d j c.fresh_record.ensures.rules in
     let full = some_from_answer (append_fault m len) f b.value in
     record {
-      value = λ h rep. p.1 ∙ ap Err p.2 ∙ sym (ap (λ o. unless o (high h + 1)) (start_by_room S a m.limit h q (Some (Store f)) good (sym (room_is S ls a h m rep sound len long) ∙ ap turned full)));
+      value = λ h rep.
+          passed_on r.result (start_refusal S a m.limit h q) (high h + 1) (Store f) r.ensures.1 (start_by_room S a m.limit h q (Some (Store f)) good (sym (room_is S ls a h m rep sound len long) ∙ ap turned full));
       after = λ h rep. b.after ∙ rep ∙ sym (ap (λ o. meaning S ls a m.limit (added o (start q) h)) (start_by_room S a m.limit h q (Some (Store f)) good (sym (room_is S ls a h m rep sound len long) ∙ ap turned full)));
       same = b.same;
     }

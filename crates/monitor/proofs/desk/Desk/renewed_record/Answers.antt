@@ -1,13 +1,12 @@
 use Rattle.std.proofs.Common.{◌≡◌, ◌-◌, ◌≤◌, length, Some, None, Ok, Err, sym, ap, ◌∙◌, arith}
-use Rattle.std.proofs.lemmas.Result.{err_from_is_err_and}
 use Rattle.logic.specs.History.{high}
 use Rattle.meaning.specs.Records.{renewed}
-use Rattle.meaning.specs.Refusals.{codes_refusal, open_refusal}
+use Rattle.meaning.specs.Refusals.{codes_refusal, open_refusal, report_refusal}
 use Rattle.meaning.specs.Calls.{unless}
 use Rattle.meaning.specs.Walking.{Judged}
 use Rattle.meaning.proofs.Lows.{low_open}
 use Rattle.meaning.proofs.Owns.{reported, looking}
-use Rattle.meaning.proofs.Refusals.{none_from_unless, some_from_unless, open_since, long_since, report_by_run, report_by_codes}
+use Rattle.meaning.proofs.Refusals.{none_from_unless, some_from_unless, passed_on, open_since, long_since, report_by_run, report_by_codes}
 use Rattle.monitor.proofs.Desks.{by_rules, wide_by}
 use Rattle.monitor.proofs.desk.Desk.renewed_record.Goals as goal
 
@@ -16,11 +15,10 @@ returns-in_err-read_open-clause-value g c = λ h rep.
     let S = g.K.Scale.algebra in
     let d = c.args.self.now.rules in
     let run = c.args.run in
-    let p = err_from_is_err_and c.from_residual.result c.from_residual.ensures.1 in
     let f = c.in_err-read_open.field-0.0 in
     let long = wide_by d c.row_before.new.self c.row_before.ensures.rules in
-    p.1 ∙ ap Err p.2
-    ∙ sym (ap (λ o. unless o tt) (report_by_run S d.atoms h run c.args.codes.now f (some_from_unless (open_refusal h run) tt f (c.in_err-read_open.ensures.value S d.table.now d.atoms h rep long))))
+    passed_on c.from_residual.result (report_refusal S d.atoms h run c.args.codes.now) tt f c.from_residual.ensures.1
+    (report_by_run S d.atoms h run c.args.codes.now f (some_from_unless (open_refusal h run) tt f (c.in_err-read_open.ensures.value S d.table.now d.atoms h rep long)))
 
 pub returns-in_err-check_codes-clause-value : goal.returns-in_err-check_codes-clause-value
 returns-in_err-check_codes-clause-value g c = λ h rep.
@@ -28,14 +26,14 @@ returns-in_err-check_codes-clause-value g c = λ h rep.
     let d = c.args.self.now.rules in
     let run = c.args.run in
     let q = c.args.codes.now in
-    let p = err_from_is_err_and c.from_residual-in_err-check_codes.result c.from_residual-in_err-check_codes.ensures.1 in
+    let r = c.from_residual-in_err-check_codes in
     let f = c.in_err-check_codes.field-0.0 in
     let e = c.row_before.new.self in
     let same = c.row_before.ensures.rules in
-    p.1 ∙ ap Err p.2
-    ∙ sym (ap (λ o. unless o tt) (report_by_codes S d.atoms h run q (Some f)
+    passed_on r.result (report_refusal S d.atoms h run q) tt f r.ensures.1
+    (report_by_codes S d.atoms h run q (Some f)
     (none_from_unless (open_refusal h run) tt tt (c.in_ok-read_open.ensures.value S d.table.now d.atoms h rep (wide_by d e same)))
-    (some_from_unless (codes_refusal S d.atoms q) tt f (by_rules d e same (λ _ a. Err f ≡ unless (codes_refusal S a q) tt) c.in_err-check_codes.ensures.value))))
+    (some_from_unless (codes_refusal S d.atoms q) tt f (by_rules d e same (λ _ a. Err f ≡ unless (codes_refusal S a q) tt) c.in_err-check_codes.ensures.value)))
 
 pub returns-clause-value : goal.returns-clause-value
 returns-clause-value g c = λ h rep.

@@ -1,12 +1,6 @@
 use Rattle.std.proofs.Common.{length}
-use Rattle.meaning.proofs.Owns.{below_is, below_none}
+use Rattle.meaning.proofs.Owns.{below_is}
 use Rattle.monitor.proofs.desk.Desk.row_before.Goals as goal
-
-pub returns-then-run-lt2-clause-before : goal.returns-then-run-lt2-clause-before
-returns-then-run-lt2-clause-before g c = λ h rep lo hi.
-    let d = c.args.self.now in
-    below_none g.K.Scale.algebra d.rules.table.now d.rules.atoms h (g.S.Store.meaning c.args.store.now) rep (g.met.S.Store.sound c.args.store.now) c.args.run (length d.previous.now) c.no.result _
-    c.if-run-lt2.true d.fits.1 c.no.ensures.value (c.fill.ensures.after (λ y e. e))
 
 pub returns-else-run-lt2-clause-before : goal.returns-else-run-lt2-clause-before
 returns-else-run-lt2-clause-before g c = λ h rep lo hi.

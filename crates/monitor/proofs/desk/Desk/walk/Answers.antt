@@ -1,18 +1,9 @@
-use Rattle.std.proofs.Common.{◌≡◌, ◌+◌, ◌<◌, ◌≤◌, length, sym, refl, ◌∙◌, subst, arith}
+use Rattle.std.proofs.Common.{◌≡◌, ◌+◌, ◌<◌, ◌≤◌, length, sym, ◌∙◌, subst, arith}
 use Rattle.stores.specs.Meaning.{high_of}
 use Rattle.meaning.specs.Walking.{Writes, Done}
-use Rattle.meaning.proofs.Walks.{sofar_first, ended, stays, moves, same_high}
+use Rattle.meaning.proofs.Walks.{ended, stays, moves, same_high}
 use Rattle.monitor.proofs.Desks.{wide_by, turned_by}
 use Rattle.monitor.proofs.desk.Desk.walk.Goals as goal
-
-pub loop-last-init : goal.loop-last-init
-loop-last-init g c = (
-  omega arith,
-  omega arith,
-  refl,
-  refl,
-  λ limit h q b. sofar_first g.K.Scale.algebra c.args.self.now.rules.table.now c.args.self.now.rules.atoms _ _ _ c.args.run limit h q b,
-)
 
 pub loop-last-preserved : goal.loop-last-preserved
 loop-last-preserved g c =
