@@ -1,8 +1,7 @@
 -- Lines: cut one by one, and joined to the input again.
-use Rattle.std.proofs.Common.{◌≡◌, ℕ, zero, suc, Bool, true, false, cond, eqb, List, [], ◌∷◌, ◌++◌, length, get_or, drop, Option, Some, None, MatchOption, Bor, sym, refl, ap, ◌∙◌, subst, append-nil, arith}
+use Rattle.std.proofs.Common.{◌≡◌, ℕ, zero, suc, Bool, true, false, cond, eqb, List, [], ◌∷◌, ◌++◌, get_or, drop, Option, Some, None, MatchOption, Bor, sym, refl, ap, ◌∙◌, subst, append-nil, arith}
 use Rattle.std.specs.List.{AllByRecursion}
 use Rattle.std.specs.Option.{unwrap_or}
-use Rattle.std.proofs.lemmas.List.{nil_from_length}
 use Rattle.std.proofs.lemmas.Bool.{eqb-true, eqb-false, ne_eqb}
 use Rattle.calls.specs.Input.{Lacks, CutAt}
 use Rattle.calls.specs.Lines.{begin_with, lines_of, joined_lines, AreLines, LinesLaw, numbered}
@@ -88,6 +87,3 @@ lines_law bs first others = (
   λ e. same_lines bs (find bs).first first (find bs).others others (sym (find bs).found ∙ e) (find bs).are,
   λ a. ap lines_of a.whole ∙ again first others a.each,
 )
-
-pub none_left : (n : ℕ) (bs : List ℕ) → length bs ≡ 0 → numbered n (lines_of bs) ≡ []
-none_left n bs h = ap (λ l. numbered n (lines_of l)) (nil_from_length bs h)

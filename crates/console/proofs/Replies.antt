@@ -41,9 +41,6 @@ pub record SoFar (S : Algebra) (p : Policy) (limit : ℕ) (h : History) (lines l
   pub goes_on : (rest : List Answer) → AllAnswered S (lines_of p) p.atoms limit history left rest → AllAnswered S (lines_of p) p.atoms limit h lines (answers ++ rest)
 
 module _ (S : Algebra) (p : Policy) (limit : ℕ) (h : History) (lines : List (ℕ × List ℕ)) (before : List Answer) where
-  pub begun : (m : Meaning) → m ≡ meaning S (lines_of p) p.atoms limit h → SoFar S p limit h lines lines before before m
-  begun m keeps = record { history = h; answers = []; means = keeps; items = sym (append-nil before); goes_on = λ rest all. all }
-
   pub one_more : (p' : Policy) (left left₂ : List (ℕ × List ℕ)) (n : ℕ) (line : List ℕ) (a : Answer) (behind behind₂ : List Answer) (m m₂ : Meaning) →
       p' ≡ p → left ≡ (n, line) ∷ left₂ → behind₂ ≡ behind ++ a ∷ [] → LineDone S p' m n line a m₂ → SoFar S p limit h lines left before behind m → SoFar S p limit h lines left₂ before behind₂ m₂
   one_more p' left left₂ n line a behind behind₂ m m₂ same is pushed done f =
