@@ -87,6 +87,7 @@ pub fn perform<K: Scale, S: Store>(
     let mut book = Book::open(heap, policy, scale, store)?;
     let Ok(mut answers) = Vec::with_capacity(heap, calls.len()) else {
         let (scale, store) = book.into_parts();
+        // The book is open by now, so its parts come back from it.
         let fault = OpenFault::NoMemory;
         return Err(Unopened {
             fault,

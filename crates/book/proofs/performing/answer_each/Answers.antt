@@ -1,8 +1,6 @@
-use Rattle.std.proofs.Common.{[], ◌++◌, map, get_or, vec_items, sym, ap, ◌∙◌, arith}
-use Rattle.std.proofs.lemmas.List.{append-nil, at_drop_all}
+use Rattle.std.proofs.Common.{[], get_or, vec_items, ◌∙◌, arith}
 use Rattle.lines.specs.Policies.{lines_of}
-use Rattle.meaning.specs.Kept.{meaning}
-use Rattle.meaning.specs.Calls.{asked, answers, after, next}
+use Rattle.meaning.specs.Calls.{asked, next}
 use Rattle.book.proofs.Lists.{performed, answered_more}
 use Rattle.meaning.specs.declared.call.Call.{Call}
 use Rattle.meaning.specs.declared.call.Call.TheVariants.{Start}
@@ -36,23 +34,3 @@ loop-call-preserved g c =
           let more = answered_more S p L calls i none_there (vec_items c.loop-call.out) (vec_items c.push_reserved.new.self) _ c.answer-a.result w.0 _ c.loop-call-test.true q.0 pushed.items w.2 w.3 in
           (next S (lines_of p) p.atoms L w.0 x, q.1, more.0, more.1),
     )
-
-pub returns : goal.returns
-returns g c =
-    let S = g.K.Scale.algebra in
-    let p = c.args.book.now.policy in
-    let ls = lines_of p in
-    let L = (g.S.Store.meaning c.args.book.now.store).limit in
-    let v = c.loop-call.invariant in
-    let calls = c.args.calls.now in
-    let i = c.loop-call.call-index in
-    let over = c.loop-call-test.false in
-    record {
-      value = λ h keeps.
-          let w = v.5 h keeps in
-          sym (append-nil _) ∙ ap (λ r. vec_items c.loop-call.out ++ r) (sym (at_drop_all (λ cs. answers S ls p.atoms L w.0 (map asked cs)) calls i over)) ∙ w.2;
-      after = λ h keeps.
-          let w = v.5 h keeps in
-          w.1 ∙ ap (meaning S ls p.atoms L) (sym (at_drop_all (λ cs. after S ls p.atoms L w.0 (map asked cs)) calls i over) ∙ w.3);
-      same = (v.2, v.3, v.4);
-    }
