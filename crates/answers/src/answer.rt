@@ -3,7 +3,8 @@ use refusals::Refusal;
 
 /// What the program answers to its policy text or to a call.
 ///
-/// A refusal is a case of it, and no error of a `Result`: each answer is one line, and a `Result` has no printed form.
+/// No twin of what a book answers: it has a policy's sizes and the run of a close, and no line's truth. A refusal is
+/// a case of it, and no error of a `Result`: each answer is one line, and a `Result` has no printed form.
 #[derive(Clone, Copy, PartialEq, Eq, Debug)]
 pub enum Answer {
     /// The policy text was read.

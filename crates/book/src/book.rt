@@ -8,6 +8,7 @@ use scales::Scale;
 use stores::Store;
 
 /// Room for one record and two rows: that of the run before, and the one that is judged.
+// Three buffers, since the monitor is lent each as a slice.
 #[derive(Drop)]
 pub struct Room {
     pub rec: Vec<u8>,

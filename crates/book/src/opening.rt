@@ -57,6 +57,7 @@ pub fn check_opening<S: Store>(policy: &Policy, store: &S) -> Result<(), BookFau
     if store.width() != 1 + policy.atoms() + 2 * policy.lines().len() {
         return Err(BookFault::Width(store.width()));
     }
+    // 0 for no run, as a store answers
     if store.high() != 0 {
         return Err(BookFault::Holding(store.high()));
     }

@@ -37,6 +37,7 @@ impl InMemory for StretchTable {
 }
 
 /// Prints low, high and every byte of the memory.
+// Here and in `print_read` no `Display`: the bytes are written in room of the heap, which a printed form has not.
 pub(crate) fn print_table<W: Write + Drop, T: InMemory>(
     to: &mut Printer<W>,
     table: &T,

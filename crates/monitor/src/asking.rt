@@ -29,6 +29,7 @@ pub fn verdict<S: Store>(
         result ≡ verdict_given K ls atoms (S.Store.meaning store.now).limit h }
 {
     let newest = store.high();
+    // 0 for no run, as a store answers
     if newest == 0 {
         return Err(BookFault::NoRuns);
     }

@@ -34,6 +34,7 @@ pub fn is_open(rec: &[u8]) -> bool
     }
 }
 
+// 0 or 1, and no enum: the first byte of a record is fixed.
 fn set_flag(rec: &mut [u8], byte: u8)
     ensures after { rec.new ≡ slice_set rec.old 0 byte }
 {

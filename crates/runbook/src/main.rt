@@ -1,4 +1,6 @@
 //! The program: reads standard input, and prints what its policy text was read into, or the refusal.
+//!
+//! Its `main` is like that of `runbook_calls`, which is to take its place.
 #![tactic(auto)]
 
 use answers::Answer;
