@@ -26,7 +26,7 @@ PATTERNS = [
     ('4a equality by hand', r'fn (is|same|same_\w+|equal)\b|as u8 =='),
     ('4b a conversion by hand', r'fn (refusal|to_\w+|answer_of|kind_of|prefix_of|since_of|policy_of|list_of|made)\b'),
     ('4c printing by hand', r'fn print_\w+'),
-    ('6a an array of fixed size', r'\[[A-Z]?\w*(::\w+)?( \{[^}]*\})?; (\d+|MOST\w*)\]'),
+    ('6a an array of fixed size', r'\[[A-Z]?\w*(::\w+)?( \{[^}]*\})?; (\d+|MOST\w*( as usize)?)\]'),
     ('6b bytes with a number of what is in use', r'^\s+(pub(\(crate\))? )?(used|count|len): u\w+,'),
     ('6c a search by halving', r'/ 2;'),
     ('7a a step chosen by a word or a number', r'match (words|kind|step|\(scale, kind\))'),

@@ -3,12 +3,18 @@ use Rattle.std.proofs.Common.{◌≡◌, ℕ, ◌-◌, ◌<◌, ◌≤◌, min, 
 use Rattle.std.proofs.lemmas.List.{take_all, drop_all, take_min, take-map, length-map, get_or_at}
 use Rattle.std.proofs.lemmas.Str.Parse.{IsNumeralModel, numerals_by_value, tells_by_index, tells_digits, digit_at, digits_value_short, parse_digits}
 use Rattle.std.specs.Str.Parse.{AllDigits, digits_value, ParsesUnsigned}
+use Rattle.std.proofs.lemmas.Bool.Decides.{nat_tests}
 use Rattle.std.specs.Int.{IsInRange, IsOutOfRange}
+use Rattle.std.specs.Char.{digit_value as char_digit_value}
 use Rattle.std.specs.List.{AllWithin, HoldsAt}
 use Rattle.std.specs.Result.{result_ok}
 use Rattle.calls.specs.Input.{Lacks, CutAt}
 use Rattle.calls.proofs.Cuts.{lacks_tail}
 use Rattle.calls.specs.Spelling.{digit_value, digit_values, Codes, RunNumber, RunAndCodes, Said, codes_in, start, report, preview, close, verdict, Spells, OneCall}
+
+-- a digit's value, as the library has it
+pub digit_is : (c : ℕ) → IsInRange 48 57 c → char_digit_value c ≡ c - 48
+digit_is c h = grind (arith, nat_tests)
 
 pub digits_told : (r : Bool) (xs : List ℕ) → MatchBool r (AllWithin (IsInRange 48 57) xs 0 (length xs)) ((k : ℕ) × (k < length xs) × HoldsAt (IsOutOfRange 48 57) xs k) → MatchBool r (AllDigits 10 xs) (AllDigits 10 xs → ⊥)
 digits_told true xs h = (numerals_by_value _ tells_by_index).to xs (λ i lt. h i 0 (omega arith) lt)
