@@ -1,6 +1,6 @@
 //! Cases of books: each call alone, with the store's memory after it, and then the whole list at once.
 use crate::printer::Printer;
-use crate::steps::{Answered, Step, parse_steps};
+use crate::steps::{Answered, parse_calls, parse_codes};
 use crate::tables::{InMemory, print_table};
 use crate::words::Words;
 use anyhow::anyhow;
@@ -31,10 +31,10 @@ fn table_for<T: InMemory>(heap: Global, policy: &Policy, size: usize) -> anyhow:
 fn run_steps<W: Write + Drop, K: Scale + Drop, T: InMemory + Drop>(
     to: &mut Printer<W>,
     mut book: Book<K, T>,
-    steps: &[Step],
+    calls: &[Call<'_>],
 ) -> anyhow::Result<()> {
-    for step in steps {
-        write!(to.out, "{}", Answered(book.answer(step.call())))?;
+    for call in calls {
+        write!(to.out, "{}", Answered(book.answer(*call)))?;
         print_table(to, book.store())?;
     }
     Ok(())
@@ -65,16 +65,13 @@ fn run_book<W: Write + Drop, K: Scale + Copy, T: InMemory + Drop>(
     size: usize,
     line: &str,
 ) -> anyhow::Result<()> {
-    let steps = parse_steps(to.heap, line)?;
+    let codes = parse_codes(to.heap, line)?;
+    let calls = parse_calls(to.heap, line, codes.as_slice())?;
     let table = table_for::<T>(to.heap, &policy, size)?;
     let Ok(book) = Book::open(to.heap, policy, scale, table) else {
         return Err(anyhow!("no book"));
     };
-    run_steps(to, book, steps.as_slice())?;
-    let calls = steps
-        .iter()
-        .map(|step| step.call())
-        .collect::<Vec<_>>(to.heap)?;
+    run_steps(to, book, calls.as_slice())?;
     let table = table_for::<T>(to.heap, &policy, size)?;
     run_list(to, policy, scale, table, calls.as_slice())
 }

@@ -6,55 +6,47 @@ use refusals::Refusal;
 use std::alloc::Global;
 use std::fmt;
 
-/// A call of a book that owns its codes.
-#[derive(Drop)]
-pub enum Step {
-    Start(Vec<u8>),
-    Report(u32, Vec<u8>),
-    Preview(u32, Vec<u8>),
-    Close(u32),
-    Verdict,
-    Truth(u32, u16),
-}
-
-impl Step {
-    pub(crate) fn call(&self) -> Call<'_> {
-        match self {
-            Step::Start(codes) => Call::Start(codes.as_slice()),
-            Step::Report(run, codes) => Call::Report(*run, codes.as_slice()),
-            Step::Preview(run, codes) => Call::Preview(*run, codes.as_slice()),
-            Step::Close(run) => Call::Close(*run),
-            Step::Verdict => Call::Verdict,
-            Step::Truth(run, line) => Call::Truth(*run, *line),
-        }
+/// The codes of each call of a case, which stand behind its head; none where a call has none.
+pub(crate) fn parse_codes(heap: Global, line: &str) -> anyhow::Result<Vec<Vec<u8>>> {
+    let mut codes = Vec::new(heap);
+    for text in line.split(';').skip(1) {
+        let mut words = Words::new(text);
+        let _name = words.next();
+        let _run = words.next();
+        let _line = words.next();
+        codes.push(words.bytes(heap)?)?;
     }
+    Ok(codes)
 }
 
-/// Reads a call: its name, a run, a line and codes, with 0 or nothing for what it has not.
-fn parse_step(heap: Global, text: &str) -> anyhow::Result<Step> {
+/// A call: its name, a run and a line, with 0 for what it has not, and its codes.
+fn parse_call<'a>(text: &str, codes: &'a [u8]) -> anyhow::Result<Call<'a>> {
     let mut words = Words::new(text);
     let name = words.next();
     let run = words.number()?;
     let line = words.number()?;
-    let codes = words.bytes(heap)?;
     match name {
-        "start" => Ok(Step::Start(codes)),
-        "report" => Ok(Step::Report(run, codes)),
-        "preview" => Ok(Step::Preview(run, codes)),
-        "close" => Ok(Step::Close(run)),
-        "verdict" => Ok(Step::Verdict),
-        "truth" => Ok(Step::Truth(run, line)),
+        "start" => Ok(Call::Start(codes)),
+        "report" => Ok(Call::Report(run, codes)),
+        "preview" => Ok(Call::Preview(run, codes)),
+        "close" => Ok(Call::Close(run)),
+        "verdict" => Ok(Call::Verdict),
+        "truth" => Ok(Call::Truth(run, line)),
         _ => Err(anyhow!("no call")),
     }
 }
 
-/// The calls of a case, which stand behind its head.
-pub(crate) fn parse_steps(heap: Global, line: &str) -> anyhow::Result<Vec<Step>> {
-    let mut steps = Vec::new(heap);
-    for text in line.split(';').skip(1) {
-        steps.push(parse_step(heap, text)?)?;
+/// The calls of a case, with these codes.
+pub(crate) fn parse_calls<'a>(
+    heap: Global,
+    line: &str,
+    codes: &'a [Vec<u8>],
+) -> anyhow::Result<Vec<Call<'a>>> {
+    let mut calls = Vec::new(heap);
+    for (text, codes) in line.split(';').skip(1).zip(codes) {
+        calls.push(parse_call(text, codes.as_slice())?)?;
     }
-    Ok(steps)
+    Ok(calls)
 }
 
 /// What a book answers, as it is printed.

@@ -1,5 +1,5 @@
 -- What is known of a row table's bytes, and when bytes are those of a row table. Assumes nothing.
-use Rattle.std.specs.Prelude.{◌≡◌, ℕ, ◌+◌, ◌-◌, ◌*◌, ◌≤◌, List, [], map, length, vec_items, Vec}
+use Rattle.std.specs.Prelude.{◌≡◌, ℕ, ◌+◌, ◌-◌, ◌*◌, ◌≤◌, List, [], ◌∷◌, map, length, vec_items, Vec}
 use Rattle.std.proofs.Common.{get_or, sym, ap, subst, ◌∙◌, arith}
 use Rattle.std.specs.Vec.{with_items}
 use Rattle.std.specs.List.{range_with_len, AllByRecursion}
@@ -20,6 +20,10 @@ holding b rs = record { width = b.width; limit = b.limit; low = b.low; records =
 
 abbrev with_high : Bounds → ℕ → Bounds
 with_high b high = record { width = b.width; limit = b.limit; low = b.low; high = high }
+
+all : {X : Type 0} (P : X → Type 0) → ((x : X) → P x) → (xs : List X) → AllByRecursion P xs
+all P h [] = tt
+all P h (x ∷ xs) = (h x, all P h xs)
 
 module _ (b : Bounds) (bytes : List ℕ) (k : Kept b bytes) where
   pub count_is : length (meaning_of b bytes).records ≡ b.high + 1 - b.low

@@ -37,7 +37,7 @@ pub record Setting : Type 0 where
 abbrev pub setting : Meaning → List ℕ → Setting
 setting m room = record { meaning = m; room = room }
 
-abbrev answer_of : Result (Unit {0}) StoreFault → Result StoreAnswer StoreFault
+abbrev pub answer_of : Result (Unit {0}) StoreFault → Result StoreAnswer StoreFault
 answer_of (Ok u) = Ok Done
 answer_of (Err f) = Err f
 
