@@ -4,7 +4,7 @@ ghost use Rattle.logic.specs.History.{History, high, earlier_run};
 ghost use Rattle.logic.specs.Rows.{nos, row};
 ghost use Rattle.stores.specs.Meaning.{record_at};
 ghost use Rattle.meaning.specs.Kept.{Represents, low};
-ghost use Rattle.meaning.specs.Walking.{Held, Judged, Turned, Writes};
+ghost use Rattle.meaning.specs.Walking.{Held, Turned, Writes};
 
 use crate::access::{fetch, keep};
 use crate::desk::Desk;
@@ -29,35 +29,14 @@ impl<K: Scale> Desk<'_, K> {
         }
     }
 
-    /// Judges the record: its new row is in `row`, and in the record.
-    pub(crate) fn judge(&mut self)
-        ensures judged { Judged K.Scale.algebra self.old.rules.table.now self.old.rules.atoms self.old.rec.now self.old.previous.now self.new.row.now self.new.rec.now }
+    /// Judges the record: its new row is in `row`, and in the record; whether its truths stay.
+    pub(crate) fn judge(&mut self) -> bool
+        ensures turned { Turned K.Scale.algebra self.old.rules.table.now self.old.rules.atoms self.old.rec.now self.old.previous.now self.new.row.now self.new.rec.now result }
         ensures rules { self.new.rules ≡ self.old.rules }
     {
         let rec = &mut *self.rec;
         let previous = &mut *self.previous;
         let row = &mut *self.row;
-        judge_record(
-            self.rules.scale,
-            self.rules.table,
-            self.rules.atoms,
-            rec,
-            previous,
-            row,
-        );
-        set_truths(rec, self.rules.atoms, row);
-    }
-
-    /// Reads a run's record and judges it; whether its truths stay.
-    pub(crate) fn turn<S: Store>(&mut self, store: &S, run: u32) -> bool
-        ensures turned { Held (S.Store.meaning store.now) (length self.old.rec.now) run →
-            Turned K.Scale.algebra self.old.rules.table.now self.old.rules.atoms (record_at (S.Store.meaning store.now) run) self.old.previous.now self.new.row.now self.new.rec.now result }
-        ensures rules { self.new.rules ≡ self.old.rules }
-    {
-        let rec = &mut *self.rec;
-        let previous = &mut *self.previous;
-        let row = &mut *self.row;
-        fetch(store, run, rec);
         judge_record(
             self.rules.scale,
             self.rules.table,
@@ -69,6 +48,28 @@ impl<K: Scale> Desk<'_, K> {
         let same = has_truths(rec, self.rules.atoms, row);
         set_truths(rec, self.rules.atoms, row);
         same
+    }
+
+    /// Reads a run's record and judges it; whether its truths stay.
+    pub(crate) fn turn<S: Store>(&mut self, store: &S, run: u32) -> bool
+        ensures turned { Held (S.Store.meaning store.now) (length self.old.rec.now) run →
+            Turned K.Scale.algebra self.old.rules.table.now self.old.rules.atoms (record_at (S.Store.meaning store.now) run) self.old.previous.now self.new.row.now self.new.rec.now result }
+        ensures rules { self.new.rules ≡ self.old.rules }
+    {
+        let rec = &mut *self.rec;
+        fetch(store, run, rec);
+        self.judge()
+    }
+
+    /// The row that was judged becomes that of the run before.
+    pub(crate) fn pass_on(&mut self)
+        ensures passed { self.new.previous.now ≡ self.old.row.now }
+        ensures rec { self.new.rec.now ≡ self.old.rec.now }
+        ensures rules { self.new.rules ≡ self.old.rules }
+    {
+        let previous = &mut *self.previous;
+        let row = &mut *self.row;
+        previous.copy_from_slice(row);
     }
 
     /// Writes the record as that of a run.

@@ -35,10 +35,8 @@ impl<K: Scale> Desk<'_, K> {
         read_open(store, run, rec)?;
         check_codes(self.rules.scale, self.rules.atoms, codes)?;
         renew(rec, self.rules.table.len(), codes);
-        self.judge();
-        let previous = &mut *self.previous;
-        let row = &mut *self.row;
-        previous.copy_from_slice(row);
+        let _ = self.judge();
+        self.pass_on();
         Ok(())
     }
 }

@@ -29,7 +29,7 @@ impl<K: Scale> Desk<'_, K> {
         let no = self.rules.scale.no();
         let rec = &mut *self.rec;
         lay(rec, lines, codes, no);
-        self.judge();
+        let _ = self.judge();
     }
 
     fn append<S: Store>(&self, store: &mut S) -> Result<(), StoreFault>

@@ -26,16 +26,14 @@ impl<K: Scale> Desk<'_, K> {
                 return last;
             }
             self.keep(store, last + 1);
-            let previous = &mut *self.previous;
-            let row = &mut *self.row;
-            previous.copy_from_slice(row);
+            self.pass_on();
         }
         newest.max(run)
     }
 
     /// The same way without a write.
     // Two functions: one for both would take a trait with an impl for `&mut S` and one for `&S`, and half its contract
-    // would speak of each. What they share is `turn`.
+    // would speak of each. What they share is `turn` and `pass_on`.
     pub(crate) fn look<S: Store>(&mut self, store: &S, run: u32) -> u32
         ensures looked { (h : History) (q : List ℕ) → Looking K.Scale.algebra self.old.rules.table.now self.old.rules.atoms (S.Store.meaning store.now) self.old.rec.now self.old.previous.now run h q →
             Looked K.Scale.algebra self.old.rules.table.now self.new.rec.now run result h q }
@@ -46,9 +44,7 @@ impl<K: Scale> Desk<'_, K> {
             if self.turn(store, last + 1) {
                 return last;
             }
-            let previous = &mut *self.previous;
-            let row = &mut *self.row;
-            previous.copy_from_slice(row);
+            self.pass_on();
         }
         newest.max(run)
     }

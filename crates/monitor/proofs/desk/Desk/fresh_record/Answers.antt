@@ -24,4 +24,4 @@ returns-clause-fresh g c = λ h rep run.
     by_rules d e same (λ t _. c.lay.new.rec ≡ 1 ∷ (q ++ (replicate (length t) c.no-no.result ++ replicate (length t) c.no-no.result))) c.lay.ensures.after
     ∙ ap (λ z. 1 ∷ (q ++ (replicate (length ls) z ++ replicate (length ls) z))) c.no-no.ensures.value in
     fresh_record S ls d.atoms m.limit h q (record { laws = g.met.K.Scale.holds; formed = d.formed }) c.requires c.lay.new.rec e.previous.now j.row.now j.rec.now laid before
-    (by_rules d e same (λ t n. Judged S t n c.lay.new.rec e.previous.now j.row.now j.rec.now) c.judge.ensures.judged)
+    (by_rules d e same (λ t n. Judged S t n c.lay.new.rec e.previous.now j.row.now j.rec.now) c.judge.ensures.turned.judged)

@@ -1,5 +1,5 @@
-use Rattle.std.proofs.Common.{◌≡◌, ◌+◌, ◌<◌, ◌≤◌, length, ◌∙◌, subst, arith}
-use Rattle.meaning.specs.Walking.{Looked}
+use Rattle.std.proofs.Common.{◌≡◌, ◌+◌, ◌<◌, ◌≤◌, length, sym, ◌∙◌, subst, arith}
+use Rattle.meaning.specs.Walking.{Looked, Seen}
 use Rattle.meaning.proofs.Walks.{look_ended, look_stays, look_moves}
 use Rattle.monitor.proofs.Desks.{wide_by, turned_by}
 use Rattle.monitor.proofs.desk.Desk.look.Goals as goal
@@ -18,12 +18,13 @@ loop-last-preserved g c =
     let rec = c.turn.new.self.rec.now in (
       omega arith,
       omega arith,
-      c.turn.ensures.rules ∙ inv.2,
+      c.pass_on.ensures.rules ∙ c.turn.ensures.rules ∙ inv.2,
       λ h q b.
-          look_moves S d.table.now d.atoms m _ _ c.args.run h q (g.met.S.Store.sound c.args.store.now) b e.rec.now e.previous.now s up (inv.3 h q b) (length e.rec.now) out rec c.turn.result
+          subst (λ x. Seen S d.table.now x c.pass_on.new.self.previous.now c.args.run (s + 1) h q) (sym c.pass_on.ensures.rec)
+          (look_moves S d.table.now d.atoms m _ _ c.args.run h q (g.met.S.Store.sound c.args.store.now) b e.rec.now e.previous.now s up (inv.3 h q b) (length e.rec.now) out rec c.turn.result
           (wide_by d e inv.2) (subst (λ n. s < n) c.high-newest.ensures.value lt)
           (turned_by d e inv.2 S m (length e.rec.now) (s + 1) e.previous.now out rec c.turn.result c.turn.ensures.turned)
-          c.copy_from_slice.new.self c.copy_from_slice.ensures.after,
+          c.pass_on.new.self.previous.now c.pass_on.ensures.passed),
     )
 
 pub returns-then-turn-clause-looked : goal.returns-then-turn-clause-looked

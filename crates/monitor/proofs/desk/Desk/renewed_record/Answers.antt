@@ -1,9 +1,9 @@
-use Rattle.std.proofs.Common.{◌≡◌, ◌-◌, ◌≤◌, length, Some, None, Ok, Err, sym, ap, ◌∙◌, arith}
+use Rattle.std.proofs.Common.{◌≡◌, ◌-◌, ◌≤◌, length, Some, None, Ok, Err, sym, ap, ◌∙◌, subst, arith}
 use Rattle.logic.specs.History.{high}
 use Rattle.meaning.specs.Records.{renewed}
 use Rattle.meaning.specs.Refusals.{codes_refusal, open_refusal, report_refusal}
 use Rattle.meaning.specs.Calls.{unless}
-use Rattle.meaning.specs.Walking.{Judged}
+use Rattle.meaning.specs.Walking.{Judged, Looking}
 use Rattle.meaning.proofs.Lows.{low_open}
 use Rattle.meaning.proofs.Owns.{reported, looking}
 use Rattle.meaning.proofs.Refusals.{none_from_unless, some_from_unless, passed_on, open_since, long_since, report_by_run, report_by_codes}
@@ -64,8 +64,9 @@ returns-clause-after g c = λ h rep.
     let ok = reported S ls d.atoms run h (record { laws = g.met.K.Scale.holds; formed = d.formed }) since.0 since.1 since.2 in
     let out = c.judge.new.self.row.now in
     let rec = c.judge.new.self.rec.now in
-    looking S ls d.atoms h (g.S.Store.meaning c.args.store.now) rep (g.met.S.Store.sound c.args.store.now) run q ok (long_since S d.atoms q good) c.renew.new.rec e.previous.now out rec
+    subst (λ x. Looking S ls d.atoms (g.S.Store.meaning c.args.store.now) x c.pass_on.new.self.previous.now run h q) (sym c.pass_on.ensures.rec)
+    (looking S ls d.atoms h (g.S.Store.meaning c.args.store.now) rep (g.met.S.Store.sound c.args.store.now) run q ok (long_since S d.atoms q good) c.renew.new.rec e.previous.now out rec
     (by_rules d e same (λ t _. c.renew.new.rec ≡ renewed (length t) q c.read_open.new.rec) c.renew.ensures.after ∙ ap (renewed (length ls) q) (c.in_ok-read_open.ensures.after S ls d.atoms h rep long))
     (c.row_before.ensures.before h rep (low_open h run since.0 since.1 since.2).1 inside)
-    (by_rules d e same (λ t a. Judged S t a c.renew.new.rec e.previous.now out rec) c.judge.ensures.judged)
-    c.copy_from_slice.new.self c.copy_from_slice.ensures.after
+    (by_rules d e same (λ t a. Judged S t a c.renew.new.rec e.previous.now out rec) c.judge.ensures.turned.judged)
+    c.pass_on.new.self.previous.now c.pass_on.ensures.passed)

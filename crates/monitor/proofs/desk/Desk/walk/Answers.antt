@@ -1,6 +1,6 @@
 use Rattle.std.proofs.Common.{◌≡◌, ◌+◌, ◌<◌, ◌≤◌, length, sym, ◌∙◌, subst, arith}
 use Rattle.stores.specs.Meaning.{high_of}
-use Rattle.meaning.specs.Walking.{Writes, Done}
+use Rattle.meaning.specs.Walking.{Writes, Sofar, Done}
 use Rattle.meaning.proofs.Walks.{ended, stays, moves, same_high}
 use Rattle.monitor.proofs.Desks.{wide_by, turned_by}
 use Rattle.monitor.proofs.desk.Desk.walk.Goals as goal
@@ -22,15 +22,16 @@ loop-last-preserved g c =
       omega arith,
       omega arith,
       c.keep.ensures.same ∙ inv.2,
-      c.turn.ensures.rules ∙ inv.3,
+      c.pass_on.ensures.rules ∙ c.turn.ensures.rules ∙ inv.3,
       λ limit h q b.
           let f = inv.4 limit h q b in
           let inside : s < high_of m = subst (λ n. s < n) (c.high-newest.ensures.value ∙ same_high S d.table.now d.atoms m₀ _ _ c.args.run limit h q b m _ _ s f) lt in
-          moves S d.table.now d.atoms m₀ _ _ c.args.run limit h q b m e.rec.now e.previous.now s (g.met.S.Store.sound c.loop-last.store) up f len out rec c.turn.result (wide_by d e inv.3) inside
+          subst (λ x. Sofar S d.table.now d.atoms (g.S.Store.meaning c.keep.new.store) x c.pass_on.new.self.previous.now c.args.run (s + 1) limit h q) (sym c.pass_on.ensures.rec)
+          (moves S d.table.now d.atoms m₀ _ _ c.args.run limit h q b m e.rec.now e.previous.now s (g.met.S.Store.sound c.loop-last.store) up f len out rec c.turn.result (wide_by d e inv.3) inside
           (turned_by d e inv.3 S m len (s + 1) e.previous.now out rec c.turn.result c.turn.ensures.turned)
-          (g.S.Store.meaning c.keep.new.store) c.copy_from_slice.new.self c.if-turn.false
+          (g.S.Store.meaning c.keep.new.store) c.pass_on.new.self.previous.now c.if-turn.false
           (subst (λ n. Writes m (g.S.Store.meaning c.keep.new.store) n (s + 1) rec) (wide_by d c.turn.new.self (c.turn.ensures.rules ∙ inv.3) ∙ sym (wide_by d e inv.3)) c.keep.ensures.after)
-          c.copy_from_slice.ensures.after,
+          c.pass_on.ensures.passed),
     )
 
 pub returns-then-turn-clause-done : goal.returns-then-turn-clause-done
