@@ -6,8 +6,8 @@ use crate::rules::Rules;
 /// The rules, and lent room for one record and two rows: that of the run before, and the one that is judged.
 ///
 /// Invariant: the room fits the rules.
-// Made inside the public calls, from slices lent to them: a book that lent its own vectors into a desk could not show
-// their lengths afterwards.
+// Made inside the public calls, from slices lent to them. Four forms of a desk that the book makes were tried: a book
+// that lends its own vectors into a desk knows nothing of their lengths afterwards.
 #[derive(Drop)]
 pub(crate) struct Desk<'a, K> {
     pub rules: Rules<'a, K>,
