@@ -15,5 +15,6 @@ pub fn keep<S: Store>(store: &mut S, run: u32, rec: &[u8])
     ensures after { Writes (S.Store.meaning store.old) (S.Store.meaning store.new) (length rec.now) run rec.now }
     ensures same { S.Store.size store.new ≡ S.Store.size store.old }
 {
+    // A refusal is let go here too, as it leaves the store alone.
     let _ = store.write(run, rec);
 }

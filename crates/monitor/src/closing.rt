@@ -57,6 +57,7 @@ fn forget_old<S: Store>(store: &mut S, rec: &mut [u8]) -> u32
 /// How many runs are gone with the close.
 ///
 /// Refuses by 22, 23, in this order; then the store is as it was.
+// Takes a record's room and no `Rules`: these would ask a caller for a scale and a table that it never reads.
 pub fn close<S: Store>(store: &mut S, rec: &mut [u8], run: u32) -> Result<u32, BookFault>
     ensures value { (K : Algebra) (ls : List Entry) (atoms : ℕ) (h : History) → Represents K ls atoms (S.Store.meaning store.old) h → length rec.old ≡ width atoms ls →
         result ≡ closed K ls atoms (S.Store.meaning store.old).limit h run }
