@@ -16,6 +16,6 @@ mod performing;
 mod rooming;
 
 pub use book::Book;
-pub use opening::{OpenFault, Unopened, check_opening};
+pub use opening::{OpenFault, Unopened, check_opening, record_width};
 pub use performing::{Performed, perform};
 pub use rooming::BookRoom;

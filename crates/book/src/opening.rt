@@ -1,5 +1,5 @@
 //! Opening a book, and handing its store back.
-ghost use Rattle.std.specs.Prelude.{◌≡◌, [], length, IfOk, Ok, Err, None, MatchResult};
+ghost use Rattle.std.specs.Prelude.{◌≡◌, ◌+◌, ◌*◌, [], length, IfOk, Ok, Err, None, MatchResult};
 ghost use Rattle.lines.specs.Policies.{lines_of};
 ghost use Rattle.meaning.specs.Calls.{unless};
 ghost use Rattle.book.specs.Books.{Keeps, opening_refusal};
@@ -48,13 +48,20 @@ pub struct Unopened<K, S> {
     pub store: S,
 }
 
+/// How many bytes the record of a run has.
+pub fn record_width(policy: &Policy) -> usize
+    ensures { result ≡ 1 + policy.now.atoms + 2 * length (lines_of policy.now) }
+{
+    1 + policy.atoms() + 2 * policy.lines().len()
+}
+
 /// Whether a book of this policy can be opened on the store.
 ///
 /// Refuses by 10, 11, in this order.
 pub fn check_opening<S: Store>(policy: &Policy, store: &S) -> Result<(), BookFault>
     ensures value { result ≡ unless (opening_refusal policy.now (S.Store.meaning store.now)) tt }
 {
-    if store.width() != 1 + policy.atoms() + 2 * policy.lines().len() {
+    if store.width() != record_width(policy) {
         return Err(BookFault::Width(store.width()));
     }
     // 0 for no run, as a store answers

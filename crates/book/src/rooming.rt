@@ -6,7 +6,7 @@ ghost use Rattle.book.specs.Opened.{OnlyRefuses};
 ghost use Rattle.book.specs.Rooms.{Fits};
 
 use crate::book::{Book, Room};
-use crate::opening::{OpenFault, Unopened, check_opening};
+use crate::opening::{OpenFault, Unopened, check_opening, record_width};
 use lines::Policy;
 use scales::Scale;
 use std::alloc::{AllocError, Global};
@@ -58,7 +58,7 @@ impl BookRoom {
             mut row,
         } = room;
         let lines = policy.lines().len();
-        rec.truncate(1 + policy.atoms() + 2 * lines);
+        rec.truncate(record_width(policy));
         previous.truncate(lines);
         row.truncate(lines);
         Ok(Room { rec, previous, row })

@@ -4,7 +4,7 @@ use crate::steps::{Answered, parse_calls, parse_codes};
 use crate::tables::{InMemory, print_table};
 use crate::words::Words;
 use anyhow::anyhow;
-use book::{Book, perform};
+use book::{Book, perform, record_width};
 use lines::Policy;
 use meaning::Call;
 use row_table::RowTable;
@@ -23,8 +23,7 @@ fn policy_of(text: &[u8]) -> anyhow::Result<Policy> {
 
 /// An empty table of the width that the policy's records have.
 fn table_for<T: InMemory>(heap: Global, policy: &Policy, size: usize) -> anyhow::Result<T> {
-    let width = 1 + policy.atoms() + 2 * policy.lines().len();
-    T::make(vec![in heap; 255; size]?, width).map_err(|_| anyhow!("no table"))
+    T::make(vec![in heap; 255; size]?, record_width(policy)).map_err(|_| anyhow!("no table"))
 }
 
 /// Performs the calls one by one, and prints the memory after each.

@@ -4,7 +4,7 @@ ghost use Rattle.console.specs.Answering.{Ready, Opened};
 
 use crate::room::Room;
 use answers::Answer;
-use book::{Book, BookRoom};
+use book::{Book, BookRoom, record_width};
 use lines::Policy;
 use row_table::RowTable;
 use scales::Plain;
@@ -44,7 +44,7 @@ impl Room {
             book,
             answers,
         } = self;
-        let width = 1 + policy.atoms() + 2 * policy.lines().len();
+        let width = record_width(&policy);
         memory.truncate(LIMIT * width);
         // the memory is just what that many records take, and the table is empty and as wide as the policy asks
         let Ok(table) = RowTable::new(memory, width) else {
