@@ -6,7 +6,7 @@
 //! `lines`, `grammar` and `names`.
 #![tactic(auto)]
 
-ghost use Rattle.std.specs.Prelude.{◌≡◌};
+ghost use Rattle.std.specs.Prelude.{◌≡◌, ◌≤◌};
 ghost use Rattle.signs.specs.Signs.{kind_of};
 ghost use Rattle.grammar.specs.Machine.{is_mark, prefix_of, since_of};
 ghost use Rattle.rules.specs.Depths.{Deeper};
@@ -26,11 +26,12 @@ pub use parser::Parser;
 const MOST_OPEN: u8 = 32;
 
 impl Depth {
-    /// Nothing is open.
-    pub fn none() -> Depth
-        ensures { result.count ≡ 0 }
+    /// This many are open.
+    pub fn new(count: u8) -> Depth
+        requires { count ≤ 32 }
+        ensures { result.count ≡ count }
     {
-        Depth { count: 0 }
+        Depth { count }
     }
 
     /// One deeper, behind the sign at `place`. The 33rd is refused.

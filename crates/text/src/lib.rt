@@ -79,7 +79,7 @@ fn parse(parser: &mut Parser<'_>) -> Result<(), GrammarFault>
     expect(parser, Mark::Atoms)?;
     read_names(parser)?;
     expect(parser, Mark::Rule)?;
-    let _last = parser.form(Depth::none())?;
+    let _last = parser.form(Depth::new(0))?;
     expect(parser, Mark::Stop)?;
     expect_end(parser)?;
     Ok(())

@@ -40,7 +40,7 @@ returns-in_err-_last c =
     let named = upto_named atoms c.in_ok-read_names.ensures in
     let rule = upto_rule named c.in_ok-expect-2.ensures in
     let y = err_from_is_err_and c.from_residual-in_err-_last.result c.from_residual-in_err-_last.ensures.1 in
-    rw (y.1, y.2) (upto_no_form c.none.ensures rule c.in_err-_last.ensures)
+    rw (y.1, y.2) (upto_no_form c.new.ensures rule c.in_err-_last.ensures)
 
 pub returns-in_err-expect-3 : goal.returns-in_err-expect-3
 returns-in_err-expect-3 c =
@@ -49,7 +49,7 @@ returns-in_err-expect-3 c =
     let atoms = upto_atoms c.requires short c.in_ok-expect.ensures in
     let named = upto_named atoms c.in_ok-read_names.ensures in
     let rule = upto_rule named c.in_ok-expect-2.ensures in
-    let form = upto_form c.none.ensures rule c.in_ok-_last.ensures in
+    let form = upto_form c.new.ensures rule c.in_ok-_last.ensures in
     let y = err_from_is_err_and c.from_residual-in_err-expect-3.result c.from_residual-in_err-expect-3.ensures.1 in
     rw (y.1, y.2) (upto_misses head_form_read form c.in_err-expect-3.ensures (λ j h. no_stop _ _ j h))
 
@@ -60,7 +60,7 @@ returns-in_err-expect_end c =
     let atoms = upto_atoms c.requires short c.in_ok-expect.ensures in
     let named = upto_named atoms c.in_ok-read_names.ensures in
     let rule = upto_rule named c.in_ok-expect-2.ensures in
-    let form = upto_form c.none.ensures rule c.in_ok-_last.ensures in
+    let form = upto_form c.new.ensures rule c.in_ok-_last.ensures in
     let stop = upto_stop form c.in_ok-expect-3.ensures in
     let y = err_from_is_err_and c.from_residual-in_err-expect_end.result c.from_residual-in_err-expect_end.ensures.1 in
     rw (y.1, y.2) (upto_more stop c.in_err-expect_end.ensures)
@@ -72,7 +72,7 @@ returns c =
     let atoms = upto_atoms c.requires short c.in_ok-expect.ensures in
     let named = upto_named atoms c.in_ok-read_names.ensures in
     let rule = upto_rule named c.in_ok-expect-2.ensures in
-    let form = upto_form c.none.ensures rule c.in_ok-_last.ensures in
+    let form = upto_form c.new.ensures rule c.in_ok-_last.ensures in
     let stop = upto_stop form c.in_ok-expect-3.ensures in
     let first = c.in_ok-expect.ensures in
     accepts c.requires c.in_ok-read_names.ensures c.in_ok-_last.ensures rule.text c.in_ok-expect-2.ensures c.in_ok-expect-3.ensures c.in_ok-expect_end.ensures
