@@ -1,25 +1,26 @@
 -- The whole of a text: from its first byte to its end.
-use Rattle.std.proofs.Common.{◌≡◌, ℕ, ◌≤◌, Bool, true, false, cond, ltb, List, [], map, length, take, Some, None, Ok, Err, Result, sym, refl, ap, ◌∙◌, subst}
-use Rattle.std.proofs.lemmas.Bool.{cond-false}
+use Rattle.std.proofs.Common.{arith, ◌≡◌, ℕ, ◌≤◌, Bool, true, false, cond, ltb, List, [], map, length, take, Some, None, Ok, Err, Result, sym, refl, ap, ◌∙◌, subst}
+use Rattle.std.proofs.lemmas.Bool.{cond-false, ltb-false}
 use Rattle.lines.specs.declared.line.Line.{Line}
 use Rattle.lines.specs.Forms.{Form, declared}
 use Rattle.lines.specs.Written.{kept_lines, Written}
 use Rattle.signs.specs.declared.sign.Mark.TheVariants.{Close, Stop, Atoms, Rule}
+use Rattle.signs.specs.declared.sign.Mark.{Mark}
 use Rattle.signs.specs.declared.sign.Sign.{Sign}
-use Rattle.signs.specs.declared.sign.Sign.TheVariants as sign
 use Rattle.signs.specs.declared.sign.SignFault.{SignFault}
 use Rattle.signs.specs.declared.sign.SignFault.TheVariants.{TooLong}
-use Rattle.signs.specs.Signs.{Kind, kind_of, mark, name, end, found, length_answer}
+use Rattle.signs.specs.Signs.{Kind, mark, name, end, found, length_answer}
 use Rattle.signs.specs.Walk.{Signs, then_signs, signs_from}
 use Rattle.signs.proofs.Steps.{signs_step}
 use Rattle.grammar.specs.declared.fault.GrammarFault.{GrammarFault}
 use Rattle.grammar.specs.declared.fault.GrammarFault.TheVariants as faults
 use Rattle.grammar.specs.Machine.{is_mark, State, begun, name_due, rule_due, in_rule, stopped, due, form_read, no_lefts, after_form, ended, step, limit, Outcome, accepted, refused, run, outcome}
+use Rattle.grammar.proofs.Sound.{mark_is}
 use Rattle.names.specs.Names.{span_bytes, names_of}
 use Rattle.rules.specs.declared.parser.Parser.{Parser}
-use Rattle.rules.specs.Parts.{text_of, place_of, declared_in, signs_at, lines_in, count_in, Over, a_form, Done, Fails}
+use Rattle.rules.specs.Parts.{text_of, place_of, declared_in, signs_at, lines_in, count_in, Over, Room, a_form, Done, Fails}
 use Rattle.rules.proofs.Parsing.{over_next}
-use Rattle.text.specs.Heads.{Missing, unread, other, Named, Unnamed, Fresh, Accepts, Refuses}
+use Rattle.text.specs.Heads.{Missing, unread, other, Tells, SignRead, MarkRead, EndRead, Named, Unnamed, Fresh, Accepts, Refuses}
 use Rattle.text.proofs.Heads.{Head, head_begun, head_rule_due, head_form_read, head_bad, head_leads, head_misfits}
 
 pub over_names : {p q : Parser} {k : Kind} → Over p q k → declared_in q ≡ declared_in p
@@ -50,6 +51,19 @@ upto_over {p} {q} {r} {st} {k} next h u o s l = record {
 pub upto_misses : {p q : Parser} {st : State} {K : Kind → Type 0} {e : GrammarFault} → Head st → Upto p st q → Missing q K e → ((j : Kind) → K j → step st j ≡ None) → Refuses p e
 upto_misses {p} {q} {st} h u (unread v) none = record { comes = u.comes ∙ head_bad (text_of q) st h (record { within = q.reader.within; is = v }) }
 upto_misses {p} {q} {st} h u (other {j} v k) none = record { comes = u.comes ∙ head_misfits (text_of q) st h (record { within = q.reader.within; is = v }) (none j k) }
+
+is_short : (b : Bool) → Ok tt ≡ long b → b ≡ false
+is_short true e = cc
+is_short false e = refl
+
+-- no line is written before the rule
+pub rule_has_room : {p q r s : Parser} → Fresh p → Ok tt ≡ length_answer (text_of p) → Over p q (mark Atoms) → Named q r → Over r s (mark Rule) → Room s
+rule_has_room {p} {q} {r} {s} f e a n o =
+    let none : count_in s ≡ 0 = ap (λ t. t.count) (o.table ∙ n.table ∙ a.table) ∙ f.count in
+    record {
+      short = subst (λ t. length t ≤ 8192) (sym (o.text ∙ n.text ∙ a.text)) (ltb-false 8192 (length (text_of p)) (is_short _ e));
+      credit = omega (arith, none);
+    }
 
 -- the state's names are the parser's
 pub upto_named : {p q r : Parser} → Upto p (name_due (declared_in q)) q → Named q r → Upto p (rule_due (declared_in r)) r
@@ -117,8 +131,29 @@ accepts {p} {q} {r} {s} {t} {u} {l} f named d same o stop {v} fin none empty com
       lines_are = subst (λ x. Written 0 [] (kept_lines x) x.count d.form l) (sym table) (from_none (count_in s) (lines_in s) (ap (λ x. x.count) before ∙ none) (ap kept_lines before ∙ empty) d.lines_are);
     }
 
--- a sign that is not the end
-pub is_end : (s : Sign) → (s ≡ sign.End → ⊥) → kind_of s ≡ end → ⊥
-is_end (sign.Mark m) not e = cc
-is_end (sign.Name w) not e = cc
-is_end sign.End not e = not refl
+-- what passes the test of a mark is the mark
+pub mark_read : (m : Mark) {gives : Sign → Bool → Type 0} {p q : Parser} → ((test : Kind → Bool) → Tells gives test → SignRead test p q (Ok tt)) → Tells gives (is_mark m) → MarkRead m p q (Ok tt)
+mark_read m {gives} {p} {q} reads tells = let r = reads (is_mark m) tells in subst (Over p q) (mark_is m r.0 r.1) r.2
+
+-- what passes the test of the end is the end
+abbrev pub ends : Kind → Bool
+ends (mark m) = false
+ends (name w) = false
+ends end = true
+
+is_end : (k : Kind) → ends k ≡ true → k ≡ end
+is_end (mark m) is = cc
+is_end (name w) is = cc
+is_end end is = refl
+
+not_end : (k : Kind) → ends k ≡ false → k ≡ end → ⊥
+not_end (mark m) is e = cc
+not_end (name w) is e = cc
+not_end end is e = cc
+
+pub end_read : {gives : Sign → Bool → Type 0} {p q : Parser} → ((test : Kind → Bool) → Tells gives test → SignRead test p q (Ok tt)) → Tells gives ends → EndRead p q (Ok tt)
+end_read {gives} {p} {q} reads tells = let r = reads ends tells in subst (Over p q) (is_end r.0 r.1) r.2
+
+pub end_missing : {p : Parser} {e : GrammarFault} → Missing p (λ k. ends k ≡ false) e → Missing p (λ k. k ≡ end → ⊥) e
+end_missing (unread v) = unread v
+end_missing (other {j} v k) = other v (not_end j k)

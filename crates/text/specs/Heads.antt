@@ -1,10 +1,11 @@
 -- What it means that a mark, the names of a policy or the whole of it were read. Assumes nothing.
-use Rattle.std.specs.Prelude.{◌≡◌, ℕ, ◌≤◌, true, false, [], length, Ok, Err, Result, ◌≢◌}
+use Rattle.std.specs.Prelude.{◌≡◌, ℕ, ◌≤◌, Bool, true, false, [], length, Ok, Err, Result, ◌≢◌}
 use Rattle.lines.specs.Forms.{Form, declared}
 use Rattle.lines.specs.Written.{Written}
 use Rattle.signs.specs.declared.sign.Mark.{Mark}
 use Rattle.signs.specs.declared.sign.SignFault.{SignFault}
-use Rattle.signs.specs.Signs.{Kind, mark, end, found, fault, next_sign}
+use Rattle.signs.specs.declared.sign.Sign.{Sign}
+use Rattle.signs.specs.Signs.{Kind, mark, end, kind_of, found, fault, next_sign}
 use Rattle.grammar.specs.declared.fault.GrammarFault.{GrammarFault}
 use Rattle.grammar.specs.declared.fault.GrammarFault.TheVariants as faults
 use Rattle.grammar.specs.Machine.{is_mark, name_due, rule_due, run, accepted, refused, outcome}
@@ -15,6 +16,15 @@ use Rattle.rules.specs.Parts.{text_of, place_of, declared_in, signs_at, lines_in
 pub data Missing (p : Parser) (k : Kind → Type 0) : GrammarFault → Type 0 where
   unread : {y : SignFault} → next_sign (text_of p) (place_of p) ≡ fault y → Missing p k (faults.Sign y)
   other : {j : Kind} {f e : ℕ} → next_sign (text_of p) (place_of p) ≡ found j f e → k j → Missing p k (faults.Misfit f)
+
+-- a call that answers by a test: what comes back of each sign is what the test says of its kind
+abbrev pub Tells : (Sign → Bool → Type 0) → (Kind → Bool) → Type 0
+Tells gives test = (s : Sign) (r : Bool) → gives s r → r ≡ test (kind_of s)
+
+-- the sign that has to come next is one that passes the test
+abbrev pub SignRead : (Kind → Bool) → Parser → Parser → Result (Unit {0}) GrammarFault → Type 0
+SignRead test p q (Ok x) = (k : Kind) × (test k ≡ true) × Over p q k
+SignRead test p q (Err e) = Missing p (λ j. test j ≡ false) e
 
 abbrev pub MarkRead : Mark → Parser → Parser → Result (Unit {0}) GrammarFault → Type 0
 MarkRead m p q (Ok x) = Over p q (mark m)

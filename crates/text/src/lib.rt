@@ -6,8 +6,9 @@
 //! `text_c` offers to a program in C. Rests on `signs`, `lines`, `grammar`, `names` and `rules`.
 #![tactic(auto)]
 
-ghost use Rattle.std.specs.Prelude.{◌≡◌};
-ghost use Rattle.text.specs.Heads.{MarkRead, EndRead, NamesRead, Fresh, Parsed};
+ghost use Rattle.std.specs.Prelude.{◌≡◌, Bool};
+ghost use Rattle.signs.specs.Signs.{Kind};
+ghost use Rattle.text.specs.Heads.{Tells, SignRead, NamesRead, Fresh, Parsed};
 ghost use Rattle.text.specs.Texts.{meant, told, Right, grammar_refusal, refusal_of, number_of};
 
 use grammar::GrammarFault;
@@ -46,27 +47,16 @@ fn read_names(parser: &mut Parser<'_>) -> Result<(), GrammarFault>
     }
 }
 
-/// The mark that has to come next.
-fn expect(parser: &mut Parser<'_>, mark: Mark) -> Result<(), GrammarFault>
-    ensures { MarkRead mark parser.old parser.new result }
+/// The sign that has to come next: one that passes the test.
+fn expect<F: Fn(Sign<'_>) -> bool>(parser: &mut Parser<'_>, fits: F) -> Result<(), GrammarFault>
+    requires { F.IsAlwaysCallable fits }
+    ensures { (test : Kind → Bool) → Tells (F.post fits) test → SignRead test parser.old parser.new result }
 {
     let placed = parser.reader.next()?;
-    if is_mark(placed.sign, mark) {
+    if fits(placed.sign) {
         Ok(())
     } else {
         Err(GrammarFault::Misfit(placed.from))
-    }
-}
-
-/// The end of the text, which has to come next.
-// Not `expect` of any sign: that two signs are `==` where they are one kind was tried, and the proof did not close.
-fn expect_end(parser: &mut Parser<'_>) -> Result<(), GrammarFault>
-    ensures { EndRead parser.old parser.new result }
-{
-    let placed = parser.reader.next()?;
-    match placed.sign {
-        Sign::End => Ok(()),
-        _ => Err(GrammarFault::Misfit(placed.from)),
     }
 }
 
@@ -76,12 +66,12 @@ fn parse(parser: &mut Parser<'_>) -> Result<(), GrammarFault>
     ensures { Parsed parser.old parser.new result }
 {
     check_length(parser.reader.text())?;
-    expect(parser, Mark::Atoms)?;
+    expect(parser, |sign| is_mark(sign, Mark::Atoms))?;
     read_names(parser)?;
-    expect(parser, Mark::Rule)?;
+    expect(parser, |sign| is_mark(sign, Mark::Rule))?;
     let _last = parser.form(Depth::new(0))?;
-    expect(parser, Mark::Stop)?;
-    expect_end(parser)?;
+    expect(parser, |sign| is_mark(sign, Mark::Stop))?;
+    expect(parser, |sign| matches!(sign, Sign::End))?;
     Ok(())
 }
 

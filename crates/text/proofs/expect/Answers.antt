@@ -1,27 +1,12 @@
-use Rattle.std.proofs.Common.{sym, refl, ap, ◌∙◌}
+use Rattle.std.proofs.Common.{sym}
 use Rattle.std.proofs.lemmas.Result.{err_from_is_err_and}
-use Rattle.signs.specs.Signs.{kind_of, mark, found}
-use Rattle.grammar.proofs.Sound.{mark_is}
 use Rattle.text.specs.Heads.{unread, other}
 use Rattle.text.proofs.expect.Goals as goal
 
 pub returns-in_err-placed : goal.returns-in_err-placed
-returns-in_err-placed c =
+returns-in_err-placed g c = λ test tells.
     let y = err_from_is_err_and c.from_residual.result c.from_residual.ensures.1 in
     rw (y.1, y.2) (unread (sym c.in_err-placed.ensures.value))
 
-pub returns-then-is_mark : goal.returns-then-is_mark
-returns-then-is_mark c =
-    let q = c.in_ok-placed.ensures in
-    let k = kind_of c.in_ok-placed.placed.sign in
-    let f = c.in_ok-placed.placed.from in
-    record {
-      from = f;
-      is = sym q.value ∙ ap (λ v. found v f c.in_ok-placed.placed.to) (mark_is c.args.mark k (sym c.if-is_mark.ensures)) ∙ ap (found (mark c.args.mark) f) (sym q.place);
-      text = q.text;
-      names = refl;
-      table = refl;
-    }
-
-pub returns-else-is_mark : goal.returns-else-is_mark
-returns-else-is_mark c = other (sym c.in_ok-placed.ensures.value) (sym c.if-is_mark.ensures)
+pub returns : goal.returns
+returns g c = λ test tells. other (sym c.in_ok-placed.ensures.value) (sym (tells _ _ c.if-fits.ensures))
