@@ -105,6 +105,7 @@ impl<'a> Parser<'a> {
         match placed.sign {
             Sign::Mark(Mark::Open) => {
                 let inner = self.form(depth.deeper(placed.from)?)?;
+                // Not the `expect` of `text`: this bracket is read in the cycle, whose contract speaks of the part.
                 let partner = self.reader.next()?;
                 if !is_mark(partner.sign, Mark::Close) {
                     return Err(GrammarFault::Misfit(partner.from));
