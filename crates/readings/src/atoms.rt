@@ -1,11 +1,11 @@
 //! The atoms that a policy text declares.
-ghost use Rattle.std.specs.Prelude.{◌≡◌, Some};
-ghost use Rattle.signs.specs.Signs.{kind_of};
+ghost use Rattle.std.specs.Prelude.{Some};
 ghost use Rattle.names.specs.Names.{names_of};
-ghost use Rattle.readings.specs.Written.{is_end, atom_written, atoms_written};
+ghost use Rattle.readings.specs.Written.{atom_written, atoms_written};
 
 use crate::word::Word;
 use names::Names;
+use rules::is_mark;
 use signs::{Mark, Reader, Sign};
 use std::fmt;
 
@@ -35,12 +35,6 @@ pub(crate) struct Atoms<'a> {
     pub(crate) names: Names,
 }
 
-fn is_semicolon(sign: Sign<'_>) -> bool
-    ensures { result ≡ is_end (kind_of sign.entry) }
-{
-    matches!(sign, Sign::Mark(Mark::Semicolon))
-}
-
 impl fmt::Display for Atoms<'_> {
     ghost output = { λ a. Some (atoms_written a.text.now (names_of a.text.now a.names)) };
 
@@ -51,7 +45,7 @@ impl fmt::Display for Atoms<'_> {
             let Ok(placed) = reader.next() else {
                 break;
             };
-            if is_semicolon(placed.sign) {
+            if is_mark(placed.sign, Mark::Semicolon) {
                 break;
             }
             if let Sign::Name(name) = placed.sign {

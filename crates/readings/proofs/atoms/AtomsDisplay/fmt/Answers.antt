@@ -6,7 +6,7 @@ use Rattle.std.proofs.lemmas.Grind.{flat_map-append}
 use Rattle.signs.specs.Signs.{kind_of}
 use Rattle.names.specs.Names.{names_of}
 use Rattle.readings.specs.Written.{named, declared, atom_of, atoms_written}
-use Rattle.readings.proofs.Signs.{at_fault, at_end, at_sign, no_name}
+use Rattle.readings.proofs.Signs.{at_fault, at_end, at_sign, end_is_mark, no_name}
 use Rattle.readings.proofs.atoms.AtomsDisplay.fmt.Goals as goal
 use Rattle.readings.proofs.atoms.AtomsDisplay.fmt.Goals.{in-Name+in_ok-write, in_default-sign}
 
@@ -29,7 +29,7 @@ loop-preserved g c =
     let n = length text - (c.loop.counter + 1) in
     let more : m ≡ suc n = omega arith in
     let k = kind_of c.in-Ok.placed.sign in
-    let split = at_sign text m n c.loop.reader.at more k c.in-Ok.placed.from c.in-Ok.placed.to (rw same at c.in-Ok.ensures.value) c.if-is_semicolon.ensures ∙ ap (λ e. named k ++ declared n text e) (sym c.in-Ok.ensures.place) in (
+    let split = at_sign text m n c.loop.reader.at more k c.in-Ok.placed.from c.in-Ok.placed.to (rw same at c.in-Ok.ensures.value) (c.if-is_mark.ensures ∙ end_is_mark _) ∙ ap (λ e. named k ++ declared n text e) (sym c.in-Ok.ensures.place) in (
       c.next.ensures.text ∙ same,
       λ plain.
           let so_far = c.loop.invariant.1 plain in
@@ -53,11 +53,11 @@ returns-in_default-clause-writes g c = λ plain _.
     let none = at_fault text _ _ c.loop.reader.at more c.in_default.field-0 (rw c.loop.invariant.0 at c.in_default.ensures.value) in
     has_written_of_eq _ _ _ _ _ (whole ns so_far.0 text _ none so_far.2) so_far.1
 
-pub returns-then-is_semicolon-clause-writes : goal.returns-then-is_semicolon-clause-writes
-returns-then-is_semicolon-clause-writes g c = λ plain _.
+pub returns-then-is_mark-clause-writes : goal.returns-then-is_mark-clause-writes
+returns-then-is_mark-clause-writes g c = λ plain _.
     let text = c.args.self.now.text.now in
     let ns = names_of text c.args.self.now.names in
     let so_far = c.loop.invariant.1 plain in
     let more : length text - c.loop.counter ≡ suc (length text - (c.loop.counter + 1)) = omega arith in
-    let none = at_end text _ _ c.loop.reader.at more (kind_of c.in-Ok.placed.sign) c.in-Ok.placed.from c.in-Ok.placed.to (rw c.loop.invariant.0 at c.in-Ok.ensures.value) c.if-is_semicolon.ensures in
+    let none = at_end text _ _ c.loop.reader.at more (kind_of c.in-Ok.placed.sign) c.in-Ok.placed.from c.in-Ok.placed.to (rw c.loop.invariant.0 at c.in-Ok.ensures.value) (c.if-is_mark.ensures ∙ end_is_mark _) in
     has_written_of_eq _ _ _ _ _ (whole ns so_far.0 text _ none so_far.2) so_far.1
