@@ -18,7 +18,7 @@ use scales::Scale;
 fn at<K: Scale>(scale: &K, xs: &[u8], i: usize) -> u8
     ensures value { result ≡ slice_index_or xs.now i K.Scale.algebra.no }
 {
-    xs.get(i).copied().unwrap_or(scale.no())
+    xs.get(i).copied().unwrap_or_else(|| scale.no())
 }
 
 /// b or (a and earlier).
