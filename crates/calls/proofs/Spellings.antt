@@ -1,13 +1,12 @@
 -- Digits read one by one, and that bytes spell at most one call.
-use Rattle.std.proofs.Common.{◌≡◌, ℕ, ◌-◌, ◌<◌, ◌≤◌, min, Bool, true, false, List, [], ◌∷◌, ◌++◌, length, get_or, take, drop, Result, Ok, Err, MatchBool, MatchOption, sym, refl, ap, ◌∙◌, subst, ⊎_elim, arith, length-append, append-nil}
-use Rattle.std.proofs.lemmas.List.{take_all, drop_all, take_min, take-map, length-map, get_or_at}
-use Rattle.std.proofs.lemmas.Str.Parse.{IsNumeralModel, numerals_by_value, tells_by_index, tells_digits, digit_at, digits_value_short, parse_digits}
-use Rattle.std.specs.Str.Parse.{AllDigits, digits_value, ParsesUnsigned}
+use Rattle.std.proofs.Common.{◌≡◌, ℕ, ◌+◌, ◌-◌, ◌<◌, ◌≤◌, min, Bool, true, false, List, [], ◌∷◌, ◌++◌, length, get_or, set, take, drop, MatchBool, sym, refl, ap, ◌∙◌, subst, ⊎_elim, arith, length-append}
+use Rattle.std.proofs.lemmas.List.{take_all, take_min, take-map, take_more_set, map_more, length-map, get_or_at, length-take-le}
+use Rattle.std.proofs.lemmas.Str.Parse.{IsNumeralModel, numerals_by_value, tells_by_index, tells_digits, digit_at, digits_value_short}
+use Rattle.std.specs.Str.Parse.{AllDigits, digits_value}
 use Rattle.std.proofs.lemmas.Bool.Decides.{nat_tests}
 use Rattle.std.specs.Int.{IsInRange, IsOutOfRange}
 use Rattle.std.specs.Char.{digit_value as char_digit_value}
 use Rattle.std.specs.List.{AllWithin, HoldsAt}
-use Rattle.std.specs.Result.{result_ok}
 use Rattle.calls.specs.Input.{Lacks, CutAt}
 use Rattle.calls.proofs.Cuts.{lacks_tail}
 use Rattle.calls.specs.Spelling.{digit_value, digit_values, Codes, RunNumber, RunAndCodes, Said, codes_in, start, report, preview, close, verdict, Spells, OneCall}
@@ -23,10 +22,9 @@ digits_told false xs h = λ all. let d = digit_at xs h.0 all h.1 in ⊎_elim (λ
 numerals : IsNumeralModel (AllDigits 10) (digits_value 10)
 numerals = numerals_by_value (AllDigits 10) tells_digits
 
--- what `parse` makes of at most six digits
-pub run_read : {E : Type 0} (bs : List ℕ) (r : Result ℕ E) → AllDigits 10 bs → length bs ≤ 6 → ParsesUnsigned 32 10 bs r → MatchOption (result_ok r) ((n : ℕ) → RunNumber bs n → ⊥) (λ n. RunNumber bs n)
-run_read {E} bs (Ok n) all few h = let p = parse_digits numerals {E = E} 32 bs (Ok n) h all in record { some = p.0.0; few = few; all = all; writes = p.1 }
-run_read {E} bs (Err e) all few h = λ n run. parse_digits numerals {E = E} 32 bs (Err e) h all (run.some, omega (arith, digits_value_short numerals bs 6 all few))
+-- the number of fewer than six digits leaves room for one more
+pub room : (xs : List ℕ) (i : ℕ) → AllDigits 10 (take i xs) → i ≤ length xs → i ≤ 5 → digits_value 10 (take i xs) < 100000
+room xs i all le few = digits_value_short numerals (take i xs) 5 all (rw (length-take-le i xs le) few)
 
 -- there is one cut at the first z
 pub same_cut : (z : ℕ) (a b c d : List ℕ) → Lacks z a → Lacks z c → a ++ (z ∷ b) ≡ c ++ (z ∷ d) → (a ≡ c) × (b ≡ d)
@@ -111,9 +109,13 @@ one_call bs (close n) (close n') h k = ap close (same_run h.0 k.0 n n' (tail k.1
 one_call bs verdict verdict h k = refl
 one_call bs s t h k = absurd (omega (arith, same_letter bs s t h k))
 
--- the values of the first 64 digits, each written over its digit
-pub values_kept : (digits kept codes : List ℕ) (i : ℕ) → kept ≡ take (min 64 (length digits)) digits → length kept ≤ i → codes ≡ digit_values (take i kept) ++ drop i kept → codes ≡ take 64 (digit_values digits)
-values_kept digits kept codes i is past e = e ∙ rw (take_all i kept past, drop_all i kept past, append-nil) (ap digit_values (is ∙ take_min 64 digits) ∙ sym (take-map digit_value 64 digits))
+-- one more digit's value behind those in the room
+pub values_more : (xs room : List ℕ) (i : ℕ) → i < length xs → i < length room → take i room ≡ digit_values (take i xs) → take (i + 1) (set room i (get_or xs i 0 - 48)) ≡ digit_values (take (i + 1) xs)
+values_more xs room i lt lt' e = take_more_set room i (get_or xs i 0 - 48) lt' ∙ ap (λ l. l ++ ((get_or xs i 0 - 48) ∷ [])) e ∙ sym (map_more digit_value xs i 0 lt)
+
+-- all digits, or the first 64 of more
+pub values_kept : (xs room : List ℕ) (i : ℕ) → i ≡ min 64 (length xs) → take i room ≡ digit_values (take i xs) → take i room ≡ take 64 (digit_values xs)
+values_kept xs room i is e = e ∙ ap (λ n. digit_values (take n xs)) is ∙ ap digit_values (take_min 64 xs) ∙ sym (take-map digit_value 64 xs)
 
 all_values : (ds cs : List ℕ) → Codes ds cs → take 64 cs ≡ cs
 all_values ds cs h = let long : length cs ≤ 64 = omega (arith, h.few, ap length h.values ∙ length-map ds digit_value) in take_all 64 cs long

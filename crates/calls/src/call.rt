@@ -44,12 +44,11 @@ impl<'a> CodeDigits<'a> {
         ensures { result.now ≡ take 64 (codes_of self.now) }
     {
         let count = MOST_CODES.min(self.digits.len());
-        let codes = &mut room[..count];
-        codes.copy_from_slice(&self.digits[..count]);
-        for code in codes.iter_mut() {
-            *code = code.saturating_sub(b'0');
+        // one pass, and no copy of the digits that is then written over
+        for (i, digit) in self.digits[..count].iter().enumerate() {
+            room[i] = digit.saturating_sub(b'0');
         }
-        codes
+        &room[..count]
     }
 }
 
@@ -71,11 +70,15 @@ fn parse_codes(bytes: &[u8]) -> Option<CodeDigits<'_>>
 fn parse_run(bytes: &[u8]) -> Option<u32>
     ensures { MatchOption result ((n : ℕ) → RunNumber bytes.now n → ⊥) (λ n. RunNumber bytes.now n) }
 {
-    // `parse` takes a plus sign too
-    if bytes.len() > MOST_RUN_DIGITS || !is_digits(bytes) {
+    if bytes.is_empty() || bytes.len() > MOST_RUN_DIGITS {
         return None;
     }
-    str::from_utf8(bytes).ok()?.parse().ok()
+    // one pass, since each line of an input has a run; `parse` asks for a `str`, and takes a plus sign too
+    let mut n = 0;
+    for b in bytes {
+        n = n * 10 + char::from(*b).to_digit(10)?;
+    }
+    Some(n)
 }
 
 fn parse_run_and_codes(bytes: &[u8]) -> Option<(u32, CodeDigits<'_>)>

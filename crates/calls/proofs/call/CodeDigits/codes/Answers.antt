@@ -1,17 +1,21 @@
--- Each digit is written over by its value.
-use Rattle.std.proofs.Common.{◌<◌, length, get_or, arith}
-use Rattle.std.proofs.lemmas.List.{get_or_default}
-use Rattle.std.proofs.lemmas.List.Edits.{map_over_more}
-use Rattle.calls.specs.Spelling.{digit_value}
-use Rattle.calls.proofs.Spellings.{values_kept}
+-- The room's front fills with values, of all digits or of the first 64.
+use Rattle.std.proofs.Common.{◌≡◌, ◌<◌, length, take, get_or, sym, ap, ◌∙◌, length-take, arith, rules}
+use Rattle.std.proofs.lemmas.List.{get_or-take}
+use Rattle.calls.proofs.Spellings.{values_more, values_kept}
 use Rattle.calls.proofs.call.CodeDigits.codes.Goals as goal
 
-pub loop-code-preserved : goal.loop-code-preserved
-loop-code-preserved c =
-    let codes = c.loop-code.codes in
-    let i = c.loop-code.code-index in
-    let lt : i < length codes = omega arith in
-    rw c.saturating_sub.ensures (map_over_more digit_value c.copy_from_slice.new.self codes i (get_or codes i 0) c.loop-code-test.true c.loop-code.invariant (get_or_default codes i 0 (get_or codes i 0) lt))
+pub loop-i-preserved : goal.loop-i-preserved
+loop-i-preserved c =
+    let xs = c.args.self.now.digits.now in
+    let long = length-take c.min-count.result xs in
+    let within : c.loop-i.i < length xs = omega (arith, long, c.loop-i-test.true) in
+    let free : c.loop-i.i < length c.loop-i.room = search rules in
+    let digit : get_or (take c.min-count.result xs) c.loop-i.i 0 ≡ get_or xs c.loop-i.i 0 = get_or-take c.min-count.result xs c.loop-i.i 0 (omega (arith, long, c.loop-i-test.true)) in
+    rw (c.saturating_sub.ensures, digit) (values_more xs _ _ within free c.loop-i.invariant)
 
 pub returns : goal.returns
-returns c = values_kept c.args.self.now.digits.now c.copy_from_slice.new.self c.loop-code.codes c.loop-code.code-index (rw c.min-count.ensures at c.copy_from_slice.ensures.after) c.loop-code-test.false c.loop-code.invariant
+returns c =
+    let xs = c.args.self.now.digits.now in
+    let long = length-take c.min-count.result xs in
+    let all : c.loop-i.i ≡ c.min-count.result = omega (arith, long, c.loop-i-test.false, c.loop-i.auto.i-end, c.min-count.ensures) in
+    ap (λ n. take n c.loop-i.room) (sym all) ∙ values_kept xs c.loop-i.room c.loop-i.i (all ∙ c.min-count.ensures) c.loop-i.invariant

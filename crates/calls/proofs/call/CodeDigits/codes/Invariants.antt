@@ -1,7 +1,7 @@
--- The front of the codes has the values of its digits, and the rest is as it was copied.
-use Rattle.std.proofs.Common.{◌≡◌, ◌++◌, take, drop}
+-- The front of the room holds the values of as many digits.
+use Rattle.std.proofs.Common.{◌≡◌, take}
 use Rattle.calls.specs.Spelling.{digit_values}
 use Rattle.calls.proofs.call.CodeDigits.codes.Given as goal
 
-abbrev pub invariant-loop-code : goal.invariant-loop-code
-invariant-loop-code l = l.codes ≡ digit_values (take l.code-index l.initial.codes) ++ drop l.code-index l.initial.codes
+abbrev pub invariant-loop-i : goal.invariant-loop-i
+invariant-loop-i l = take l.i l.room ≡ digit_values (take l.i l.self.digits.now)
