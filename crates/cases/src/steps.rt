@@ -6,34 +6,35 @@ use refusals::Refusal;
 use std::alloc::Global;
 use std::fmt;
 
+/// A call: its name, a run and a line, with 0 for what it has not, and these codes.
+fn parse_call<'a>(words: &mut Words<'_>, codes: &'a [u8]) -> anyhow::Result<Call<'a>> {
+    let name = words.next();
+    // before the numbers, so that a word that names no call is what is told of the line
+    if !["start", "report", "preview", "close", "verdict", "truth"].contains(&name) {
+        return Err(anyhow!("no call"));
+    }
+    let run = words.number()?;
+    let line = words.number()?;
+    Ok(match name {
+        "start" => Call::Start(codes),
+        "report" => Call::Report(run, codes),
+        "preview" => Call::Preview(run, codes),
+        "close" => Call::Close(run),
+        "verdict" => Call::Verdict,
+        _ => Call::Truth(run, line),
+    })
+}
+
 /// The codes of each call of a case, which stand behind its head; none where a call has none.
 pub(crate) fn parse_codes(heap: Global, line: &str) -> anyhow::Result<Vec<Vec<u8>>> {
     let mut codes = Vec::new(heap);
     for text in line.split(';').skip(1) {
         let mut words = Words::new(text);
-        let _name = words.next();
-        let _run = words.next();
-        let _line = words.next();
+        // what is wrong is told of the first call with a fault, and there from the left
+        let _call = parse_call(&mut words, &[])?;
         codes.push(words.bytes(heap)?)?;
     }
     Ok(codes)
-}
-
-/// A call: its name, a run and a line, with 0 for what it has not, and its codes.
-fn parse_call<'a>(text: &str, codes: &'a [u8]) -> anyhow::Result<Call<'a>> {
-    let mut words = Words::new(text);
-    let name = words.next();
-    let run = words.number()?;
-    let line = words.number()?;
-    match name {
-        "start" => Ok(Call::Start(codes)),
-        "report" => Ok(Call::Report(run, codes)),
-        "preview" => Ok(Call::Preview(run, codes)),
-        "close" => Ok(Call::Close(run)),
-        "verdict" => Ok(Call::Verdict),
-        "truth" => Ok(Call::Truth(run, line)),
-        _ => Err(anyhow!("no call")),
-    }
 }
 
 /// The calls of a case, with these codes.
@@ -44,7 +45,7 @@ pub(crate) fn parse_calls<'a>(
 ) -> anyhow::Result<Vec<Call<'a>>> {
     let mut calls = Vec::new(heap);
     for (text, codes) in line.split(';').skip(1).zip(codes) {
-        calls.push(parse_call(text, codes.as_slice())?)?;
+        calls.push(parse_call(&mut Words::new(text), codes.as_slice())?)?;
     }
     Ok(calls)
 }

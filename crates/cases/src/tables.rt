@@ -37,15 +37,16 @@ impl InMemory for StretchTable {
 }
 
 /// Prints low, high and every byte of the memory.
-// Here and in `print_read` no `Display`: the bytes are written in room of the heap, which a printed form has not.
+// Here and in `print_read` no `Display`: the bytes are written part by part, and a record is read into room of the heap.
 pub(crate) fn print_table<W: Write + Drop, T: InMemory>(
     to: &mut Printer<W>,
     table: &T,
 ) -> anyhow::Result<()> {
     let low = table.low();
     let high = table.high();
-    let memory = hex::encode(to.heap, table.bytes())?;
-    writeln!(to.out, " low {low} high {high} memory {memory}")?;
+    write!(to.out, " low {low} high {high} memory ")?;
+    to.print_hex(table.bytes())?;
+    writeln!(to.out, "")?;
     Ok(())
 }
 
@@ -71,7 +72,7 @@ fn print_read<W: Write + Drop, T: InMemory>(
 ) -> anyhow::Result<()> {
     let mut room = vec![in to.heap; 170; len]?;
     match table.read(run, &mut room) {
-        Ok(()) => write!(to.out, "{}", hex::encode(to.heap, room.as_slice())?)?,
+        Ok(()) => to.print_hex(room.as_slice())?,
         Err(fault) => write!(to.out, "{}", Refusal::from(fault))?,
     }
     Ok(())

@@ -1,4 +1,5 @@
 //! The words of a case's head or of a call.
+use readings::check_digits;
 use std::alloc::Global;
 use std::str::{FromStr, Split};
 
@@ -25,6 +26,10 @@ impl<'a> Words<'a> {
 
     /// The bytes that the next word is in hexadecimal.
     pub(crate) fn bytes(&mut self, heap: Global) -> anyhow::Result<Vec<u8>> {
-        Ok(hex::decode(heap, self.next())?)
+        let digits = self.next().as_bytes();
+        check_digits(digits)?;
+        let mut bytes = vec![in heap; 0; digits.len() / 2]?;
+        hex::decode_to_slice(digits, &mut bytes)?;
+        Ok(bytes)
     }
 }

@@ -2,7 +2,8 @@
 //! found, and with its lines in their order, or the refusal.
 //!
 //! A line of the table is printed as `a0` for an atom by its number, `no`, `yes`, `~0`, `YL0`, `YG0` for an operation
-//! on one line, `0|1`, `0SL1`, `0SG1` for one on two. Rests on `text`. specs/Written.antt has the bytes.
+//! on one line, `0|1`, `0SL1`, `0SG1` for one on two. Rests on `text`. specs/Written.antt has the bytes. Also the test of
+//! the hexadecimal that the programs with cases are handed (specs/Digits.antt).
 #![tactic(auto)]
 
 ghost use Rattle.std.specs.Prelude.{Some};
@@ -14,8 +15,11 @@ use refusals::Refusal;
 use std::fmt;
 
 mod atoms;
+mod digits;
 mod rows;
 mod word;
+
+pub use digits::{DigitFault, check_digits};
 
 /// A policy text, printed as what it is read into.
 #[derive(Clone, Copy)]
