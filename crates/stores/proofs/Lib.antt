@@ -1,4 +1,5 @@
 pub mod Bytes
 pub mod Made
+pub mod Meanings
 pub mod Refused
 pub mod Sounds
